@@ -12,28 +12,29 @@ use Rattle.body_forms.specs.declared.form.Form.TheVariants as form
 use Rattle.body_forms.specs.Form.{IsFormOf, IsCauseAt, HasForm, core_form, literal_places, literal_sources}
 
 -- an expression of none of the forms that have a meaning
-pub otherwise : (found : Findings) (e : Expr) → ((l : _) → e ≡ whole.Literal l → ⊥) → ((name : _) → e ≡ whole.Path name → ⊥) → ((base : _) (name : _) → e ≡ whole.Field base name → ⊥) → ((operand : _) (op : _) → e ≡ whole.UnaryOp operand op → ⊥) → ((operand : _) → e ≡ whole.Cast operand → ⊥) → ((lhs : _) (rhs : _) (op : _) → e ≡ whole.BinaryOp lhs rhs op → ⊥) → ((condition : _) (then_branch : _) (else_branch : _) → e ≡ whole.If condition then_branch else_branch → ⊥) → ((target : _) (value : _) → e ≡ whole.Assignment target value → ⊥) → ((statements : _) (tail : _) (label : _) → e ≡ whole.Block statements tail label → ⊥) → ((body : _) (label : _) → e ≡ whole.Loop body label → ⊥) → ((value : _) (label : _) → e ≡ whole.Break value label → ⊥) → ((label : _) → e ≡ whole.Continue label → ⊥) → ((value : _) → e ≡ whole.Return value → ⊥) → ((callee : _) (args : _) → e ≡ whole.Call callee args → ⊥) → ((receiver : _) (args : _) (name : _) → e ≡ whole.MethodCall receiver args name → ⊥) → ((parts : _) → e ≡ whole.Tuple parts → ⊥) → ((elements : _) → e ≡ whole.Array elements → ⊥) → ((initializer : _) → e ≡ whole.Repeat initializer → ⊥) → ((path : _) (written : _) (base : _) → e ≡ whole.RecordLit path written base → ⊥) → (e ≡ whole.Missing → ⊥) → IsFormOf found e form.Unbuilt
-otherwise found (whole.Literal l) literal path part unary cast binary either assigned block loop break continue return call method tuple array repeat literal_of_struct missing = absurd (literal l refl)
-otherwise found (whole.Path name) literal path part unary cast binary either assigned block loop break continue return call method tuple array repeat literal_of_struct missing = absurd (path name refl)
-otherwise found (whole.Field base name) literal path part unary cast binary either assigned block loop break continue return call method tuple array repeat literal_of_struct missing = absurd (part base name refl)
-otherwise found (whole.UnaryOp operand op) literal path part unary cast binary either assigned block loop break continue return call method tuple array repeat literal_of_struct missing = absurd (unary operand op refl)
-otherwise found (whole.Cast operand) literal path part unary cast binary either assigned block loop break continue return call method tuple array repeat literal_of_struct missing = absurd (cast operand refl)
-otherwise found (whole.BinaryOp lhs rhs op) literal path part unary cast binary either assigned block loop break continue return call method tuple array repeat literal_of_struct missing = absurd (binary lhs rhs op refl)
-otherwise found (whole.If condition then_branch else_branch) literal path part unary cast binary either assigned block loop break continue return call method tuple array repeat literal_of_struct missing = absurd (either condition then_branch else_branch refl)
-otherwise found (whole.Assignment target value) literal path part unary cast binary either assigned block loop break continue return call method tuple array repeat literal_of_struct missing = absurd (assigned target value refl)
-otherwise found (whole.Block statements tail label) literal path part unary cast binary either assigned block loop break continue return call method tuple array repeat literal_of_struct missing = absurd (block statements tail label refl)
-otherwise found (whole.Loop body label) literal path part unary cast binary either assigned block loop break continue return call method tuple array repeat literal_of_struct missing = absurd (loop body label refl)
-otherwise found (whole.Break value label) literal path part unary cast binary either assigned block loop break continue return call method tuple array repeat literal_of_struct missing = absurd (break value label refl)
-otherwise found (whole.Continue label) literal path part unary cast binary either assigned block loop break continue return call method tuple array repeat literal_of_struct missing = absurd (continue label refl)
-otherwise found (whole.Return value) literal path part unary cast binary either assigned block loop break continue return call method tuple array repeat literal_of_struct missing = absurd (return value refl)
-otherwise found (whole.Call callee args) literal path part unary cast binary either assigned block loop break continue return call method tuple array repeat literal_of_struct missing = absurd (call callee args refl)
-otherwise found (whole.MethodCall receiver args name) literal path part unary cast binary either assigned block loop break continue return call method tuple array repeat literal_of_struct missing = absurd (method receiver args name refl)
-otherwise found (whole.Tuple parts) literal path part unary cast binary either assigned block loop break continue return call method tuple array repeat literal_of_struct missing = absurd (tuple parts refl)
-otherwise found (whole.Array elements) literal path part unary cast binary either assigned block loop break continue return call method tuple array repeat literal_of_struct missing = absurd (array elements refl)
-otherwise found (whole.Repeat initializer) literal path part unary cast binary either assigned block loop break continue return call method tuple array repeat literal_of_struct missing = absurd (repeat initializer refl)
-otherwise found (whole.RecordLit path' written base') literal path part unary cast binary either assigned block loop break continue return call method tuple array repeat literal_of_struct missing = absurd (literal_of_struct path' written base' refl)
-otherwise found whole.Missing literal path part unary cast binary either assigned block loop break continue return call method tuple array repeat literal_of_struct missing = absurd (missing refl)
-otherwise found _ literal path part unary cast binary either assigned block loop break continue return call method tuple array repeat literal_of_struct missing = record { core = refl; cause = λ lacks. lacks }
+pub otherwise : (found : Findings) (e : Expr) → ((l : _) → e ≡ whole.Literal l → ⊥) → ((name : _) → e ≡ whole.Path name → ⊥) → ((base : _) (name : _) → e ≡ whole.Field base name → ⊥) → ((base : _) (index : _) → e ≡ whole.Index base index → ⊥) → ((operand : _) (op : _) → e ≡ whole.UnaryOp operand op → ⊥) → ((operand : _) → e ≡ whole.Cast operand → ⊥) → ((lhs : _) (rhs : _) (op : _) → e ≡ whole.BinaryOp lhs rhs op → ⊥) → ((condition : _) (then_branch : _) (else_branch : _) → e ≡ whole.If condition then_branch else_branch → ⊥) → ((target : _) (value : _) → e ≡ whole.Assignment target value → ⊥) → ((statements : _) (tail : _) (label : _) → e ≡ whole.Block statements tail label → ⊥) → ((body : _) (label : _) → e ≡ whole.Loop body label → ⊥) → ((value : _) (label : _) → e ≡ whole.Break value label → ⊥) → ((label : _) → e ≡ whole.Continue label → ⊥) → ((value : _) → e ≡ whole.Return value → ⊥) → ((callee : _) (args : _) → e ≡ whole.Call callee args → ⊥) → ((receiver : _) (args : _) (name : _) → e ≡ whole.MethodCall receiver args name → ⊥) → ((parts : _) → e ≡ whole.Tuple parts → ⊥) → ((elements : _) → e ≡ whole.Array elements → ⊥) → ((initializer : _) → e ≡ whole.Repeat initializer → ⊥) → ((path : _) (written : _) (base : _) → e ≡ whole.RecordLit path written base → ⊥) → (e ≡ whole.Missing → ⊥) → IsFormOf found e form.Unbuilt
+otherwise found (whole.Literal l) literal path part element unary cast binary either assigned block loop break continue return call method tuple array repeat literal_of_struct missing = absurd (literal l refl)
+otherwise found (whole.Path name) literal path part element unary cast binary either assigned block loop break continue return call method tuple array repeat literal_of_struct missing = absurd (path name refl)
+otherwise found (whole.Field base name) literal path part element unary cast binary either assigned block loop break continue return call method tuple array repeat literal_of_struct missing = absurd (part base name refl)
+otherwise found (whole.Index base index) literal path part element unary cast binary either assigned block loop break continue return call method tuple array repeat literal_of_struct missing = absurd (element base index refl)
+otherwise found (whole.UnaryOp operand op) literal path part element unary cast binary either assigned block loop break continue return call method tuple array repeat literal_of_struct missing = absurd (unary operand op refl)
+otherwise found (whole.Cast operand) literal path part element unary cast binary either assigned block loop break continue return call method tuple array repeat literal_of_struct missing = absurd (cast operand refl)
+otherwise found (whole.BinaryOp lhs rhs op) literal path part element unary cast binary either assigned block loop break continue return call method tuple array repeat literal_of_struct missing = absurd (binary lhs rhs op refl)
+otherwise found (whole.If condition then_branch else_branch) literal path part element unary cast binary either assigned block loop break continue return call method tuple array repeat literal_of_struct missing = absurd (either condition then_branch else_branch refl)
+otherwise found (whole.Assignment target value) literal path part element unary cast binary either assigned block loop break continue return call method tuple array repeat literal_of_struct missing = absurd (assigned target value refl)
+otherwise found (whole.Block statements tail label) literal path part element unary cast binary either assigned block loop break continue return call method tuple array repeat literal_of_struct missing = absurd (block statements tail label refl)
+otherwise found (whole.Loop body label) literal path part element unary cast binary either assigned block loop break continue return call method tuple array repeat literal_of_struct missing = absurd (loop body label refl)
+otherwise found (whole.Break value label) literal path part element unary cast binary either assigned block loop break continue return call method tuple array repeat literal_of_struct missing = absurd (break value label refl)
+otherwise found (whole.Continue label) literal path part element unary cast binary either assigned block loop break continue return call method tuple array repeat literal_of_struct missing = absurd (continue label refl)
+otherwise found (whole.Return value) literal path part element unary cast binary either assigned block loop break continue return call method tuple array repeat literal_of_struct missing = absurd (return value refl)
+otherwise found (whole.Call callee args) literal path part element unary cast binary either assigned block loop break continue return call method tuple array repeat literal_of_struct missing = absurd (call callee args refl)
+otherwise found (whole.MethodCall receiver args name) literal path part element unary cast binary either assigned block loop break continue return call method tuple array repeat literal_of_struct missing = absurd (method receiver args name refl)
+otherwise found (whole.Tuple parts) literal path part element unary cast binary either assigned block loop break continue return call method tuple array repeat literal_of_struct missing = absurd (tuple parts refl)
+otherwise found (whole.Array elements) literal path part element unary cast binary either assigned block loop break continue return call method tuple array repeat literal_of_struct missing = absurd (array elements refl)
+otherwise found (whole.Repeat initializer) literal path part element unary cast binary either assigned block loop break continue return call method tuple array repeat literal_of_struct missing = absurd (repeat initializer refl)
+otherwise found (whole.RecordLit path' written base') literal path part element unary cast binary either assigned block loop break continue return call method tuple array repeat literal_of_struct missing = absurd (literal_of_struct path' written base' refl)
+otherwise found whole.Missing literal path part element unary cast binary either assigned block loop break continue return call method tuple array repeat literal_of_struct missing = absurd (missing refl)
+otherwise found _ literal path part element unary cast binary either assigned block loop break continue return call method tuple array repeat literal_of_struct missing = record { core = refl; cause = λ lacks. lacks }
 
 node-adjusted : (source : Source) (e : ℕ) → is_adjusted_otherwise source.infer (record { 0 = e }) ≡ true → node source e ≡ None
 unfolding node

@@ -1,9 +1,10 @@
 -- The form of an expression, as far as forms have a meaning.
 use Rattle.std.specs.Prelude.{◌≡◌, ℕ, ◌-◌, ◌^◌, false, List, [], ◌∷◌, Option, Some, None, IsSome, option_map, pos}
-use Rattle.source_meaning.specs.Core.{Assigned as CoreAssigned, Assignee as CoreAssignee, ByField, ByPath, ByPattern, ByPlace, CoreExpr, CoreLiteral, Findings, Truth, Number, Character, Operation, Negate, Invert, Keep, Convert, Combine, MakeTuple, MakeArray, Repeat, MakeStruct, PlaceElem, Part, FieldOf, core_of, is_place}
+use Rattle.source_meaning.specs.Core.{Assigned as CoreAssigned, Assignee as CoreAssignee, ByField, ByPath, ByPattern, ByPlace, CoreExpr, CoreLiteral, Findings, Truth, Number, Character, Operation, Negate, Invert, Keep, Convert, Combine, MakeTuple, MakeArray, Repeat, MakeStruct, PlaceElem, Part, FieldOf, ElementAt, core_of, is_place}
 use Rattle.source_meaning.specs.Core as expr
 use Rattle.source_meaning.specs.Source.{Source, node, unadjusted}
 use Rattle.source_meaning.specs.Structs.{FieldSource as CoreSource, StructAt as CoreStruct, Written, OfBase, all_places, all_sources}
+use Rattle.types.specs.declared.ids.FieldId.{FieldId}
 use Rattle.world.specs.Nodes.{expr_numbers, field_numbers}
 use Rattle.world.specs.declared.expr.Expr.{Expr}
 use Rattle.either.specs.declared.Either.TheVariants.{Left, Right}
@@ -43,18 +44,21 @@ operation_of one.Neg = Negate
 
 -- what may be found out of an expression whose form depends on nothing but itself
 abbrev pub no_findings : Findings
-no_findings = record { names_unit = false; names_item = false; casts = λ operand. None; field = λ base. None; made = None; assignee = λ pat. ByPattern pat.0; assigned = λ e. ByPath e.0 }
+no_findings = record { names_unit = false; names_item = false; casts = λ operand. None; field = λ base. None; element = λ base index. None; made = None; assignee = λ pat. ByPattern pat.0; assigned = λ e. ByPath e.0 }
 
--- the step into a value that a step to a field is
+-- the step into a value that a step to a field or an element is
 abbrev pub core_elem : FieldStep → PlaceElem
 core_elem (step.Part index) = Part index
 core_elem (step.Field field) = FieldOf field
+core_elem (step.Element e index) = ElementAt e.0 index.0
 
--- An element of a place of the source, as the graph has it. Which tuple of its body a part belongs to isn't looked at, and is always the
--- greatest number of 32 bits.
-abbrev pub elem_of : PlaceElem → GraphElem
-elem_of (Part index) = Field (Right (record { tuple = 2 ^ 32 - 1; index = index }))
-elem_of (FieldOf field) = Field (Left field)
+-- A part of a tuple, as the graph has it. Which tuple of its body the part belongs to isn't looked at, and is always the greatest number of 32 bits.
+abbrev pub part_elem : (index : ℕ) → GraphElem
+part_elem index = Field (Right (record { tuple = 2 ^ 32 - 1; index = index }))
+
+-- a field of a struct, as the graph has it
+abbrev pub field_elem : FieldId → GraphElem
+field_elem field = Field (Left field)
 
 -- the struct that a literal makes a value of
 abbrev pub core_struct : StructAt → CoreStruct

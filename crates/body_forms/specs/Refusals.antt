@@ -54,7 +54,7 @@ pub record IsUnbuiltExpr (source : Source) (e : ℕ) : Type 0 where
 -- An expression of a form that isn't built yet, whatever its parts are: one that is adjusted otherwise than by `NeverToAny`
 -- alone, whatever its form is, and one to which `core_of` gives no form, other than an incomplete one: `*`, a literal that is neither
 -- a truth value nor a whole number nor a character, a cast from or to another type than an integer, `bool` or `char`, a path to an
--- associated item or a variant, or to a struct that isn't its type, a field of a struct with generic arguments, of a variant or of a union, or one that isn't resolved, a struct literal
+-- associated item or a variant, or to a struct that isn't its type, a field of a struct with generic arguments, of a variant or of a union, or one that isn't resolved, an index of another type than `usize` or of what is no array, a struct literal
 -- that isn't resolved to the struct that its type is, or doesn't give each field of it once; with a base, one that writes a field twice or writes
 -- what is no field of it, or is of a struct with generic arguments; one with `..` and no base; a closure, a `match` and so on.
 abbrev pub IsUnbuiltForm : Source → ℕ → Type 0
@@ -77,12 +77,12 @@ IsUnbuiltTarget source p =
     (target_path source p ≡ None)
     ⊎ ((named : ValueNs) × (pattern_named_by source p ≡ Some named) × (local_named named ≡ None))
 
--- a target of a compound assignment, other than a field, that isn't built yet: it is no path that could be one to a binding, or is resolved
+-- a target of a compound assignment, other than a field or an element, that isn't built yet: it is no path that could be one to a binding, or is resolved
 -- to something else
 abbrev pub IsUnbuiltOperand : Source → ℕ → Type 0
 IsUnbuiltOperand source e = (compound_path source e ≡ None) ⊎ NamesNoBinding source e
 
--- a target of an assignment that isn't built yet; that of an expression isn't where the expression is neither a path nor a field, or is
+-- a target of an assignment that isn't built yet; that of an expression isn't where the expression is neither a path nor a field nor an element, or is
 -- adjusted
 abbrev pub IsUnbuiltAssignee : Source → Assignee → Type 0
 IsUnbuiltAssignee source (ByPattern pat) = IsUnbuiltTarget source pat

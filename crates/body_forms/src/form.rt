@@ -2,14 +2,14 @@
 
 ghost use Rattle.std.specs.Prelude.{◌≡◌, ◌<◌, ℕ, List, Option, false, length, Some, None, IfSome, IfNone};
 ghost use Rattle.std.specs.Option.{option_and_then, option_copied, option_map};
-ghost use Rattle.source_meaning.specs.Core.{are_many, are_other_steps, cast_operation, expr_in, field_taken, is_adjusted_otherwise, is_adjusted_twice, is_adjusted_pattern, is_by_reference, is_dereferenced_pattern, is_positive, is_literal, name_of, named_path, names_item, part_in, path_of, pattern_names_item, step_to, update_form, value_type as type_of_value};
+ghost use Rattle.source_meaning.specs.Core.{are_many, are_other_steps, cast_operation, element_taken, expr_in, field_taken, is_adjusted_otherwise, is_adjusted_twice, is_adjusted_pattern, is_by_reference, is_dereferenced_pattern, is_positive, is_literal, name_of, named_path, names_item, part_in, path_of, pattern_names_item, step_to, update_form, value_type as type_of_value};
 ghost use Rattle.types.specs.declared.ids.VariantId.TheVariants as variant;
 ghost use Rattle.source_meaning.specs.Core as expr;
 ghost use Rattle.source_meaning.specs.Source.{assigned, assigned_by, assignee, compound_path, findings, pattern, pattern_expr, target_path, unadjusted};
 ghost use Rattle.world.specs.declared.expr.Expr.TheVariants as whole;
 ghost use Rattle.world.specs.Lookups.{expr_of};
 ghost use Rattle.body_forms.specs.Contexts.{source_of};
-ghost use Rattle.body_forms.specs.Form.{IsCause, IsFormOf, IsPlaceForm, HasForm, core_assigned, core_assignee, core_elem, core_form, core_struct, elem_of, core_value, no_findings};
+ghost use Rattle.body_forms.specs.Form.{IsCause, IsFormOf, IsPlaceForm, HasForm, core_assigned, core_assignee, core_elem, core_form, core_struct, core_value, no_findings, part_elem};
 ghost use Rattle.body_forms.specs.Refusals.{IsIncomplete};
 ghost use Rattle.world.specs.declared.expr.Expr.{Expr};
 
@@ -24,8 +24,8 @@ use either::Either;
 use mir::{BinOp, PlaceElem, UnOp};
 use world::{
     Adjustment, BinaryOp, BindingId, BindingMode, Expr, ExprId, FieldId, LabelId, List, Literal,
-    LogicOp, Pat, PatId, RecordLitField, RecordSpread, Statement, StructId, Text, TupleFieldId,
-    UnaryOp, VariantId,
+    LogicOp, Pat, PatId, RecordLitField, RecordSpread, Statement, StructId, Text, TupleFieldId, Ty,
+    UintTy, UnaryOp, VariantId,
 };
 
 /// What an assignment writes to, by the pattern that its target is.
@@ -37,13 +37,15 @@ pub enum Assignee {
     Place(ExprId),
 }
 
-/// The step from a base to what a field expression names.
+/// The step from a base to what a field or an index expression names.
 #[derive(Clone, Copy)]
 pub enum FieldStep {
     /// To a part of a tuple, by its index.
     Part(u32),
     /// To a field of a struct.
     Field(FieldId),
+    /// To an element of an array, by the index expression and its index.
+    Element(ExprId, ExprId),
 }
 
 /// The place that a compound assignment reads and writes.
@@ -51,7 +53,7 @@ pub enum FieldStep {
 pub enum Assigned {
     /// The binding that the path names which the left operand is.
     Path(ExprId),
-    /// A part of a tuple or a field of a struct: its base, and the step from there.
+    /// A part of a tuple, a field of a struct or an element of an array: its base, and the step from there.
     Field(ExprId, FieldStep),
 }
 
@@ -62,7 +64,7 @@ pub enum Form<'a> {
     Path(&'a Text),
     /// A path to a unit struct.
     UnitStruct,
-    /// A part of a tuple or a field of a struct: its base, and the step from there.
+    /// A part of a tuple, a field of a struct or an element of an array: its base, and the step from there.
     Field(ExprId, FieldStep),
     Unary(UnOp, ExprId),
     /// A cast that is a coercion.
@@ -184,22 +186,31 @@ fn field_taken(context: &Context<'_>, e: ExprId, base: ExprId) -> Option<FieldSt
     }
 }
 
-/// The element of a place that a step to a field is.
-pub fn place_elem(step: FieldStep) -> PlaceElem
-    ensures { result ≡ elem_of (core_elem step) }
+/// The step that an index expression takes from its base: to an element, where that is an array, and the index a `usize`.
+#[tactic(auto, unfolding(source_meaning::specs::Source::node_type, source_meaning::specs::Source::own_type))]
+fn element_taken(context: &Context<'_>, e: ExprId, base: ExprId, index: ExprId) -> Option<FieldStep>
+    ensures { option_map core_elem result ≡ element_taken context.now.infer.now e base index }
 {
-    match step {
-        FieldStep::Part(index) => PlaceElem::Field(Either::Right(TupleFieldId {
-            tuple: u32::MAX,
-            index,
-        })),
-        FieldStep::Field(field) => PlaceElem::Field(Either::Left(field)),
+    match (value_type(context, base), value_type(context, index)) {
+        (Some(Ty::Array(..)), Some(Ty::Uint(UintTy::Usize))) => Some(FieldStep::Element(e, index)),
+        _ => None,
     }
 }
 
-/// The form of a field of a base, by the step that it takes.
+/// The element of a place that a step to a part of a tuple is. The number of the tuple isn't looked at, and is always the greatest.
+pub fn part_elem(index: u32) -> PlaceElem
+    ensures { result ≡ part_elem index }
+{
+    PlaceElem::Field(Either::Right(TupleFieldId {
+        tuple: u32::MAX,
+        index,
+    }))
+}
+
+/// The form of a field or an element of a base, by the step that it takes.
 fn field_form<'a>(base: ExprId, taken: Option<FieldStep>) -> Form<'a>
-    ensures { (name : List ℕ) → IsFormOf (record no_findings { field = λ from. option_map core_elem taken }) (whole.Field base name) result }
+    ensures field { (name : List ℕ) → IsFormOf (record no_findings { field = λ from. option_map core_elem taken }) (whole.Field base name) result }
+    ensures element { (index : ExprId) → IsFormOf (record no_findings { element = λ from at. option_map core_elem taken }) (whole.Index base index) result }
 {
     match taken {
         Some(step) => Form::Field(base, step),
@@ -282,6 +293,7 @@ fn form_of<'a>(context: &Context<'a>, e: ExprId, expr: &'a Expr) -> Form<'a>
         Expr::Literal(literal) => literal_form(literal),
         Expr::Path(name) => path_form(names_unit(context, e), names_item(context, e), name),
         Expr::Field { expr, .. } => field_form(*expr, field_taken(context, e, *expr)),
+        Expr::Index { base, index } => field_form(*base, element_taken(context, e, *base, *index)),
         Expr::UnaryOp { expr, op } => unary_form(*expr, *op),
         Expr::Cast { expr } => cast_form(context, e, *expr),
         Expr::BinaryOp { lhs, rhs, op } => binary_form(context, *lhs, *rhs, *op),
@@ -378,12 +390,12 @@ pub fn literal_at(context: &Context<'_>, e: ExprId) -> Option<LiteralValue>
     }
 }
 
-/// What an expression is for those that use its place: a path or a part of a tuple, and else a value, whose place is a local
-/// of its own. What is adjusted is a value.
+/// What an expression is for those that use its place: a path, or a part of a tuple, a struct or an array, and else a value, whose place is a
+/// local of its own. What is adjusted is a value.
 #[derive(Clone, Copy)]
 pub enum PlaceForm<'a> {
     Path(&'a Text),
-    /// A part of a tuple or a field of a struct: its base, and the step from there.
+    /// A part of a tuple, a field of a struct or an element of an array: its base, and the step from there.
     Field(ExprId, FieldStep),
     Value,
 }
@@ -542,16 +554,16 @@ fn is_adjusted_twice(context: &Context<'_>, e: ExprId) -> bool
     are_many(context.infer.expr_adjustments.get(&e))
 }
 
-/// What an expression is as the target of a compound assignment, by the step that it takes from its base where it is a field.
-fn assigned_in(context: &Context<'_>, e: ExprId, expr: Option<&Expr>) -> Assigned
-    ensures { core_assigned result ≡ assigned_by e.0 (option_and_then (part_in (field_taken context.now.infer.now e)) (option_copied expr.entry)) }
+/// The base and the step of the field or the element that an expression is, where it is one.
+fn part_in(context: &Context<'_>, e: ExprId, expr: Option<&Expr>) -> Option<(ExprId, FieldStep)>
+    ensures { option_map (λ part. (part.0.0, core_elem part.1)) result ≡ option_and_then (part_in (field_taken context.now.infer.now e) (element_taken context.now.infer.now e)) (option_copied expr.entry) }
 {
     match expr {
-        Some(Expr::Field { expr, .. }) => match field_taken(context, e, *expr) {
-            Some(step) => Assigned::Field(*expr, step),
-            None => Assigned::Path(e),
-        },
-        _ => Assigned::Path(e),
+        Some(Expr::Field { expr, .. }) => Some((*expr, field_taken(context, e, *expr)?)),
+        Some(Expr::Index { base, index }) => {
+            Some((*base, element_taken(context, e, *base, *index)?))
+        }
+        _ => None,
     }
 }
 
@@ -563,7 +575,10 @@ fn assigned_of(context: &Context<'_>, e: ExprId) -> Assigned
     if is_adjusted_twice(context, e) {
         Assigned::Path(e)
     } else {
-        assigned_in(context, e, context.body.exprs.get(e.0 as u64))
+        match part_in(context, e, context.body.exprs.get(e.0 as u64)) {
+            Some((base, step)) => Assigned::Field(base, step),
+            None => Assigned::Path(e),
+        }
     }
 }
 

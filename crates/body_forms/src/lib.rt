@@ -15,7 +15,7 @@ pub use call::{lower_callee, method_args, must_not_return};
 pub use context::Context;
 pub use form::{
     Assigned, Assignee, FieldStep, Form, PlaceForm, compound_path, form_at, literal_at, name_bound,
-    place_elem, place_form_at, target_path,
+    part_elem, place_form_at, target_path,
 };
 pub use inferred::{
     array_of, binding_ty, diverges, is_copy, never_type, node_ty, own_ty, value_type,

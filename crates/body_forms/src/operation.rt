@@ -3,6 +3,7 @@
 ghost use Rattle.std.specs.Prelude.{◌≡◌, ◌<◌, ◌∷◌, ℕ, List, [], length, IfOk, IfErr, OnOk, Some};
 ghost use Rattle.source_meaning.specs.Built.{IsBuiltStrict};
 ghost use Rattle.mir.specs.declared.operand.OperandKind.TheVariants.{Copy};
+ghost use Rattle.mir.specs.declared.span.MirSpan.TheVariants as span;
 ghost use Rattle.source_meaning.specs.Core as expr;
 ghost use Rattle.source_meaning.specs.Meaning.{deciding_byte};
 ghost use Rattle.source_meaning.specs.Source.{node};
@@ -39,9 +40,10 @@ pub enum Several {
     Array,
 }
 
-/// A place as an operand.
+/// A place as an operand, which has the span of an expression.
 pub fn copied(place: Place, e: ExprId) -> Operand
-    ensures { result.kind ≡ Copy place }
+    ensures kind { result.kind ≡ Copy place }
+    ensures span { result.span ≡ Some (span.ExprId e) }
 {
     Operand {
         kind: OperandKind::Copy(place),

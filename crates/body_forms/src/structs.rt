@@ -1,4 +1,5 @@
-//! Struct literals: which struct they make a value of, and which written field gives each of its fields.
+//! Expressions that make values of structs: struct literals, with what gives each field of their struct, a written field or the base, and paths to
+//! unit structs.
 
 ghost use Rattle.std.specs.Prelude.{◌≡◌, ◌&&◌, ◌==◌, ℕ, List, count_by, length, map, is_some, IfOk, IsSome, Some};
 ghost use Rattle.std.specs.Option.{option_and_then, option_copied, option_map};
@@ -86,7 +87,7 @@ fn own_struct(context: &Context<'_>, e: ExprId) -> Option<StructId>
     }
 }
 
-/// The struct that a path is resolved to, where it is: by inference, or else by its name.
+/// The struct that a path is resolved to, where it is: by inference, or else by its name; `Self` is the struct that the path's own type is.
 fn struct_named(context: &Context<'_>, e: ExprId) -> Option<StructId>
     ensures { result ≡ struct_named (option_and_then struct_of (type_of context.now.infer.now e.0)) (variant_named (source_of context.now) e.0) (named_by (source_of context.now) e.0) }
 {
@@ -101,7 +102,7 @@ fn struct_named(context: &Context<'_>, e: ExprId) -> Option<StructId>
     }
 }
 
-/// Whether an expression's own type is a struct.
+/// Whether an expression's own type is the given struct.
 #[tactic(auto, unfolding(source_meaning::specs::Source::own_type))]
 fn is_of_struct(context: &Context<'_>, e: ExprId, id: StructId) -> bool
     ensures { result ≡ is_some (option_and_then (struct_args id) (type_of context.now.infer.now e.0)) }
@@ -185,7 +186,8 @@ fn source_by(id: StructId, index: u32, place: Option<usize>) -> FieldSource
     }
 }
 
-/// What gives the fields of the struct of a literal with a base, in their order. A field past the 2^32nd has no id: `NoMemory`.
+/// What gives the fields of the struct of a literal with a base, in their order. A field past the 2^32nd has no id: `NoMemory`. The check of a world
+/// refuses a struct with so many, but nothing that is asked of the world here says so.
 pub fn field_sources(
     alloc: Global,
     literal: StructLiteral<'_>,

@@ -1,6 +1,6 @@
 -- When a run of a lowered body can begin.
 use Rattle.std.proofs.Common.{◌≡◌, ℕ, suc, ◌-◌, ◌<◌, ◌≤◌, ◌⊎◌, ⊎_elim, inl, inr, Bool, true, false, cond, List, [], ◌∷◌, Option, Some, None, Result, Ok, Err, refl, sym, ap, ◌∙◌, subst, arith}
-use Rattle.std.specs.Prelude.{slice_get, option_and_then, codes, nat_le}
+use Rattle.std.specs.Prelude.{slice_get, codes, nat_le}
 use borrow.Author.Tests.{le-leb, leb-false}
 use Rattle.world.specs.declared.database.HirDatabase.{HirDatabase}
 use Rattle.world.specs.declared.layout.Layout.{Layout}
@@ -21,15 +21,15 @@ use Rattle.mir.specs.Run.{Program, Frame, begun}
 use Rattle.mir_lower.specs.Simulates.{Simulates}
 use Rattle.mir_lower.specs.Stops.{IsCellType, LacksLayout, LacksSize}
 use Rattle.mir_lower.proofs.Fitting.{cells-sizes, sizes-found}
+use Rattle.mir_lower.proofs.Lacking.{sized-cell}
 use Rattle.mir_lower.proofs.Whole.{begun-cells}
 use Rattle.source_meaning.specs.Aggregates.{HasAggregates}
 use Rattle.source_meaning.specs.Entering.{entering}
-use Rattle.source_meaning.specs.Source.{Source, Cell, Result as Slot, Node, Binding, Never, cell_type, diverges, own_type, node_type, root}
-use Rattle.mir_lower.specs.Growth.{IsUsed}
+use Rattle.source_meaning.specs.Source.{Source}
 use Rattle.consteval.specs.Answers.{EndsEvaluation, PassesBytesAtOnce}
 use Rattle.consteval.proofs.Bytes.{taken-within}
 use Rattle.consteval.proofs.Faults.{NeverRunsFor, never-without-layout, never-without-room, never-without-size, overfull, without-layout, without-size}
-use Rattle.source_meaning.specs.Valid.{itself, IsPlain, AreLaidOut, HasSizedLayout, HasDefinedCost}
+use Rattle.source_meaning.specs.Valid.{IsPlain, AreLaidOut, HasDefinedCost}
 
 -- the types of a plain body that began have layouts
 pub has-layouts : (source : Source) (program : Program) (body : MirBody) (start : Frame × Memory) → program.world ≡ source.world → Simulates source body → begun program body ≡ Ok start → HasAggregates source.world → IsPlain source → AreLaidOut source
@@ -89,11 +89,6 @@ pub begun-from : (program : Program) (body : MirBody) (all : List Interval × Me
 unfolding begun
 begun-from program body all is = ap (λ (r : Result (List Interval × Memory) MirEvalError). elim r [ Ok a ↦ Ok (record { program = program; body = body; cells = a.0; below = [] }, a.1) | Err e ↦ Err e ]) is
 
--- what the cell of a `!` holds is of the expression's own type
-never-typed : (test : Bool) (own : Option Ty) (ty : Ty) → cond test own None ≡ Some ty → own ≡ Some ty
-never-typed true own ty is = is
-never-typed false own ty is = absurd cc
-
 -- a body with a defined cost can begin where the bytes that are counted on entering it are within the limit
 pub begins : (source : Source) (program : Program) (body : MirBody) → program.world ≡ source.world → Simulates source body → HasDefinedCost source → (entering source).bytes ≤ program.bytes → (start : Frame × Memory) × (begun program body ≡ Ok start)
 begins source program body same simulates cost within =
@@ -102,17 +97,10 @@ begins source program body same simulates cost within =
     let all = first-cells program.bytes sizes.0 in
     let there = cells-there program.world body.locals program.bytes sizes.0 (ap (λ w. sizes_of w body.locals) same ∙ sizes.1) (omega arith) in
     ((record { program = program; body = body; cells = all.0; below = [] }, all.1), begun-from program body all there) where
-      of-type : (local : Local) (ty : Option Ty) → ty ≡ Some local.ty → HasSizedLayout source ty → HasLayout source.world local
-      of-type local ty is layout = (layout.layout, ap (option_and_then (layout_of source.world)) (sym is) ∙ layout.found, layout.sized)
-
-      by-cell : (local : Local) (cell : Cell) → IsUsed source cell → cell_type source cell ≡ Some local.ty → HasLayout source.world local
-      by-cell local Slot used is = of-type local (node_type source (root source)) is (let root-sized = cost.nodes (root source) itself in root-sized.of_value)
-      by-cell local (Node e) used is = of-type local (node_type source e) is (let sized-node = cost.nodes e used in sized-node.of_value)
-      by-cell local (Never e) used is = of-type local (own_type source e) (never-typed (diverges source e) (own_type source e) local.ty is) (let sized-node = cost.nodes e used in sized-node.of_itself)
-      by-cell local (Binding b) used is = of-type local (Some local.ty) refl (cost.bindings b local.ty is)
-
       sized : (l : ℕ) (local : Local) → slice_get body.locals l ≡ Some local → HasLayout source.world local
-      sized l local there = let cell = simulates.cells l local there in by-cell local cell.0 cell.1 cell.2
+      sized l local there =
+          let cell = simulates.cells l local there in
+          let layout = sized-cell source cost local.ty cell.0 cell.1 cell.2 in (layout.layout, layout.found, layout.sized)
 
 first-err : {A B E : Type 0} (r : Result A E) (next : A → Result B E) (e : E) → ◌≡◌ {A = Result B E} (elim r [ Ok a ↦ next a | Err e ↦ Err e ]) (Err e) → (r ≡ Err e) ⊎ ((a : A) × (r ≡ Ok a) × (next a ≡ Err e))
 first-err (Ok a) next e h = inr (a, refl, h)

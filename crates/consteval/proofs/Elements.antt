@@ -2,7 +2,7 @@
 use Rattle.std.proofs.Common.{◌≡◌, ℕ, zero, suc, List, [], ◌∷◌, map, Some, refl, ap, ◌∙◌}
 use Rattle.std.specs.Prelude.{Contains, slice_get}
 use Rattle.std.proofs.lemmas.Option.{get_or_from_slice_get, slice_get-get_or}
-use Rattle.mir_lower.proofs.Lists.{slice_get_below}
+use Rattle.mir_graph.proofs.Lists.{slice_get_below}
 
 pub at-place : {X : Type 0} (xs : List X) (x : X) → Contains xs x → (i : ℕ) × (slice_get xs i ≡ Some x)
 at-place xs x there = (there.0, slice_get-get_or xs there.0 x there.1 ∙ ap Some there.2)

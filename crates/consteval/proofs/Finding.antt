@@ -3,7 +3,7 @@ use Rattle.std.proofs.Common.{◌≡◌, ℕ, zero, suc, arith, Bool, true, fals
 use Rattle.std.specs.Prelude.{Contains, map, slice_get}
 use Rattle.std.specs.BTreeMap.{is_at}
 use Rattle.std.specs.List.{find}
-use Rattle.mir_lower.proofs.Lists.{slice_get_below}
+use Rattle.mir_graph.proofs.Lists.{slice_get_below}
 use Rattle.types.specs.Places.{row_at}
 use Rattle.world.proofs.Rows.{found_at}
 use Rattle.world.specs.declared.database.HirDatabase.{HirDatabase}

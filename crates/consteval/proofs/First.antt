@@ -5,9 +5,8 @@ use Rattle.types.specs.declared.ids.FunctionId.{FunctionId}
 use Rattle.types.specs.declared.ty.GenericArgs.{GenericArgs}
 use Rattle.mir.specs.Answers.{answer_to}
 use Rattle.mir.specs.declared.address.Interval.{Interval}
-use Rattle.mir.specs.Memory.{Memory, cell_bytes}
-use Rattle.mir.specs.Places.{place_cell}
-use Rattle.mir.specs.Run.{Frame, Waiting, Calling, Ending, Returned, Faulted, Asked, Next, Stops, GoesTo, Asks, operand_bytes, operand_type, function_in, body_query, calling, first_body, returned, resumed, after_return, after_statements, levels_over, called_cells, filled, entered, called, called_by, calls, switched, terminated, next_from, entering, going_on}
+use Rattle.mir.specs.Memory.{Memory, cell_bytes, number_held}
+use Rattle.mir.specs.Run.{Frame, Waiting, Calling, Ending, Returned, Faulted, Asked, Next, Stops, GoesTo, Asks, operand_bytes, operand_out, operand_type, function_in, body_query, callee_error, calling, calls_out, cell_now, entry_of, led, first_body, returned, resumed, after_return, after_statements, levels_over, called_cells, filled, entered, called, called_by, calls, switched, terminated, trail_of, next_from, entering, going_on}
 use Rattle.mir.specs.declared.answers.Answer.{Answer}
 use Rattle.mir.specs.declared.answers.Answer.TheVariants as answer
 use Rattle.mir.specs.declared.body.BasicBlock.{BasicBlock}
@@ -50,7 +49,7 @@ module _ (frame : Frame) where
     begins-body : (destination : Option Interval) → Begins frame (entered frame memory call id body destination)
     begins-body destination = begins-placed destination (called_cells frame.program.world body.locals destination memory) refl
 
-    begins-returning : (cell : Option Interval) (block : ℕ) → call.target ≡ Some block → place_cell frame.program.world frame.body frame.cells call.destination ≡ cell
+    begins-returning : (cell : Option Interval) (block : ℕ) → call.target ≡ Some block → cell_now frame memory call.destination ≡ cell
         → Begins frame (called frame memory call id body)
     unfolding called
     begins-returning (Some cell) block is cell_is = rw (is, cell_is, called) (begins-body (Some cell))
@@ -63,15 +62,23 @@ module _ (frame : Frame) where
     begins-nested false is fits_is = rw (is, fits_is, called) tt
 
     begins-called : (target : Option ℕ) → call.target ≡ target → Begins frame (called frame memory call id body)
-    begins-called (Some block) is = begins-returning (place_cell frame.program.world frame.body frame.cells call.destination) block is refl
+    begins-called (Some block) is = begins-returning (cell_now frame memory call.destination) block is refl
     begins-called None is = begins-nested (nat_le (suc (levels_over frame.below)) frame.program.nesting) is refl
+
+  begins-led : (out : Bool) (next : Next) → Begins frame next → Begins frame (led frame out next)
+  begins-led true next begins = tt
+  begins-led false next begins = begins
 
   begins-by : (memory : Memory) (call : Calling) (callee : FunctionId × GenericArgs) (told : Option Answer)
       → option_and_then function_in (operand_type frame.program.world frame.body call.func.kind) ≡ Some callee → answer_to frame.program.answers (body_query callee) ≡ told
       → Begins frame (calls frame memory call)
   unfolding calls called_by
-  begins-by memory call callee (Some (answer.Body body)) is told_is = rw (is, told_is, calls) (begins-called memory call callee.0 body.value call.target refl)
-  begins-by memory call callee (Some (answer.Failed e)) is told_is = rw (is, told_is, calls) tt
+  begins-by memory call callee (Some (answer.Body body)) is told_is =
+      rw (is, told_is, calls)
+      (begins-led (calls_out frame.program.world frame.body (number_held memory frame.cells) call) (called frame memory call callee.0 body.value) (begins-called memory call callee.0 body.value call.target refl))
+  begins-by memory call callee (Some (answer.Failed e)) is told_is =
+      rw (is, told_is, calls)
+      (begins-led (calls_out frame.program.world frame.body (number_held memory frame.cells) call) (Stops (Faulted (callee_error callee.0 e) (entry_of frame call callee.0 ∷ trail_of frame))) tt)
   begins-by memory call callee (Some (answer.Konst konst)) is told_is = rw (is, told_is, calls) refl
   begins-by memory call callee (Some (answer.Discriminant number)) is told_is = rw (is, told_is, calls) refl
   begins-by memory call callee None is told_is = rw (is, told_is, calls) refl
@@ -117,7 +124,10 @@ module _ (frame : Frame) where
       → Begins frame (terminated frame memory (Some terminator))
   unfolding terminated
   begins-kind memory terminator (Goto target) is = rw (is, terminated) refl
-  begins-kind memory terminator (SwitchInt discr targets) is = rw (is, terminated) (begins-switched memory targets (operand_bytes frame memory discr.kind))
+  begins-kind memory terminator (SwitchInt discr targets) is =
+      rw (is, terminated)
+      (begins-led (operand_out frame.program.world frame.body (number_held memory frame.cells) discr.kind) (switched frame memory targets (operand_bytes frame memory discr.kind))
+      (begins-switched memory targets (operand_bytes frame memory discr.kind)))
   begins-kind memory terminator Return is = rw (is, terminated) (begins-return memory frame.below refl)
   begins-kind memory terminator (Drop place target unwind) is = rw (is, terminated) refl
   begins-kind memory terminator (Call func args destination target cleanup from_hir_call) is =

@@ -4,7 +4,7 @@ use Rattle.std.specs.Prelude.{Contains, slice_get, OnOk, OnErr}
 use Rattle.std.proofs.Math.Seq.{take-append_seam}
 use Rattle.std.proofs.lemmas.List.{append-nil, map-append, take-append-le}
 use Rattle.std.proofs.lemmas.List.Elements.{Contains-push, Contains-append_left}
-use Rattle.mir_lower.proofs.Lists.{slice_get-more, slice_get_below}
+use Rattle.mir_graph.proofs.Lists.{slice_get-more, slice_get_below}
 use Rattle.world.specs.declared.database.HirDatabase.{HirDatabase}
 use Rattle.types.specs.declared.ids.DefWithBodyId.{DefWithBodyId}
 use Rattle.types.specs.declared.ty.Const.{Const}

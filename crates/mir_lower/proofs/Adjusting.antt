@@ -12,7 +12,7 @@ use Rattle.source_meaning.specs.Valid.{IsLaidOut}
 use Rattle.source_meaning.proofs.Marks.{itself_marks}
 use Rattle.source_meaning.proofs.Never.{undiverted-type, never-cell}
 use Rattle.mir_lower.specs.Does.{FrontAll, here, IsFrameOf, Reaches, Nothing, Does, DoesOwn}
-use Rattle.mir_lower.specs.Graph.{Shape, OpenTarget}
+use Rattle.mir_graph.specs.Graph.{Shape, OpenTarget}
 use Rattle.mir_lower.specs.Growth.{Grows, IsReady}
 use Rattle.mir_lower.specs.Lowered.{Keeps, IsGiven, LowersInto, LowersOwn}
 use Rattle.mir_lower.specs.Runs.{Comes}

@@ -29,7 +29,7 @@ use Rattle.source_meaning.specs.Places.{operand_bytes, operands_bytes}
 use Rattle.source_meaning.specs.Source.{Source, Cell, Result as Slot, Binding, Store, Operand, cell_type, cell_layout, cell_size, zeroed, with_cell_bytes}
 use Rattle.mir_lower.specs.Callees.{AreLocalsOf}
 use Rattle.mir_lower.specs.Does.{Holds, FitAll}
-use Rattle.mir_lower.specs.Graph.{Shape, local_of}
+use Rattle.mir_graph.specs.Graph.{Shape, local_of}
 use Rattle.mir_lower.specs.Runs.{local_bytes, AreCellsApart, LiesApart, Represents}
 use Rattle.mir_lower.specs.Stops.{without_arguments}
 use Rattle.mir_lower.proofs.Holding.{cells, interval-of}

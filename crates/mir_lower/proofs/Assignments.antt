@@ -1,5 +1,5 @@
 -- Assignments: the value as a place, then that of the target, and then the bytes of the one are copied to the other.
-use Rattle.std.proofs.Common.{◌≡◌, ℕ, Bool, true, List, [], ◌∷◌, ◌++◌, Contains, Option, Some, option_and_then, if◌then◌else◌, inr, ⊎_elim, refl, sym, ap, ◌∙◌, subst, append_assoc, append-nil, arith}
+use Rattle.std.proofs.Common.{◌≡◌, ◌||◌, ℕ, Bool, true, List, [], ◌∷◌, ◌++◌, Contains, Option, Some, option_and_then, if◌then◌else◌, inr, ⊎_elim, refl, sym, ap, ◌∙◌, subst, append_assoc, append-nil, arith}
 use Rattle.std.specs.Prelude.{flat_map}
 use Rattle.std.proofs.lemmas.List.Elements.{Contains-append_cases}
 use Rattle.source_meaning.specs.Around.{marking}
@@ -17,28 +17,31 @@ use Rattle.mir.specs.declared.span.MirSpan.{MirSpan}
 use Rattle.mir.specs.WholePlaces.{whole_place}
 use Rattle.source_meaning.specs.Ends.{Stuck, then_do}
 use Rattle.source_meaning.specs.Events.{marked_as_place, marked_by_assignee}
-use Rattle.source_meaning.specs.Meaning.{level_at, assignee_place, bound_place, copy_at}
-use Rattle.source_meaning.specs.Places.{place_bytes}
-use Rattle.source_meaning.specs.Source.{Source, node, unadjusted, target, target_path, pattern_named_by, Cell, Binding, Place, whole as place_of_cell}
+use Rattle.mir.specs.Memory.{Memory, number_held}
+use Rattle.mir.specs.Run.{Frame, assigns_out, operand_out as mir_out, reads_out}
+use Rattle.source_meaning.specs.Meaning.{level_at, assign_at, assignee_place, bound_place, copy_at}
+use Rattle.source_meaning.specs.Places.{is_out_of_bounds, operand_out, place_bytes}
+use Rattle.source_meaning.specs.Source.{Source, node, unadjusted, target, target_path, pattern_named_by, At, Cell, Binding, Operand, Place, Store, whole as place_of_cell}
 use Rattle.source_meaning.specs.Steps.{assignee_parts, assignee_steps, parts_of}
 use Rattle.source_meaning.specs.Valid.{NeedsLayout, own, inside, sized_part, sized_parts, IsLaidOutNode}
 use Rattle.source_meaning.proofs.Depth.{assigned_is_part, assignee_is_part}
 use Rattle.source_meaning.proofs.Marks.{assign_marks, pattern_target_marks, place_target_marks}
 use Rattle.source_meaning.proofs.Parts.{nothing_is_contained, sized_part_is_part}
-use Rattle.mir_lower.specs.Does.{here, IsAt, Reaches, Nothing, LeadsTo}
-use Rattle.mir_lower.specs.Graph.{Shape, with_statement}
+use Rattle.mir_lower.specs.Does.{here, Fits, Holds, IsAt, Reaches, Nothing, LeadsTo}
+use Rattle.mir_graph.specs.Graph.{Shape, with_statement}
 use Rattle.mir_lower.specs.Growth.{Grows, IsSound, IsOpen, IsReady}
 use Rattle.mir_lower.specs.Leaving.{Idles}
 use Rattle.mir_lower.specs.Lowered.{IsPlainWithin, Keeps, LaysOut, IsTargeted, Assigns, LowersAssignee, LowersPlace, LowersOwn}
 use Rattle.mir_lower.proofs.Growing.{grows-refl, grows-trans, with_statement-grows}
 use Rattle.mir_lower.proofs.Laid.{layouts-before, plain-part, one-of}
-use Rattle.mir_lower.proofs.Operations.{keeps-assigned, copy-computes}
-use Rattle.mir_lower.proofs.Projecting.{at-later}
+use Rattle.mir_lower.proofs.Operations.{keeps-assigned, copy-computes, copy-fits}
+use Rattle.mir_lower.proofs.Projecting.{at-later, whole-at}
+use Rattle.mir_lower.proofs.Reading.{place-fits}
 use Rattle.mir_lower.proofs.Reaching.{comes-refl, reaches-then}
 use Rattle.mir_lower.proofs.Sparing.{spares-refl, spares-trans}
 use Rattle.mir_lower.proofs.Standing.{marking-fits, stands-in, stands-with}
 use Rattle.mir_lower.proofs.Steps.{reaches-from, does-form}
-use Rattle.mir_lower.proofs.Writing.{writing, written-copy}
+use Rattle.mir_lower.proofs.Writing.{writing, written-copy, written-within}
 
 -- the value is a part, and so is the expression that the target is
 pub value-part : (source : Source) (e : ℕ) (to : Assignee) (value : ℕ) → node source e ≡ Some (expr.Assign to value) → Contains (parts_of (node source e)) value
@@ -72,7 +75,7 @@ lowers-target-path source s pat local sound opened targeted =
       keeps = keeps-none source s (marked_by_assignee source (ByPattern pat)) sound opened (pattern_target_marks source pat);
       does = record {
         at = at;
-        is = record { found = targeted.found; elements = refl };
+        is = whole-at s local (Binding targeted.binding.0) targeted.found;
         does = record {
           reaches = λ whole frame grows whole-sound is lands around stands fuel serves store memory holds.
               subst (λ (b : Option BindingId). Reaches source whole lands frame (here s) (here s) memory (LeadsTo at whole frame) (bound_place b store)) (sym targeted.names)
@@ -99,6 +102,14 @@ lowers-target-place source s0 s1 e place named lowered =
       laid = λ child within. subst (LaysOut source s1) (one-of e child within) lowered.laid;
     }
 
+-- an assignment of a copy uses a place that is out of bounds just where the source's does
+assign-out : (source : Source) (whole : Shape) (frame : Frame) (to : GraphPlace) (operand : MirOperand) (place : Place) (value : Operand) (store : Store) (memory : Memory) → Holds whole frame store memory → Fits source (Copy to) whole frame (At place) → Fits source operand.kind whole frame value →
+    assigns_out frame.program.world frame.body (number_held memory frame.cells) to (Use operand) ≡ (is_out_of_bounds source store place || operand_out source store value)
+unfolding reads_out mir_out
+assign-out source whole frame to operand place value store memory holds to-fits fits =
+    ap (λ one. one || mir_out frame.program.world frame.body (number_held memory frame.cells) operand.kind) (to-fits.out store memory holds)
+    ∙ ap (λ other. is_out_of_bounds source store place || other) (fits.out store memory holds)
+
 -- the bytes of one place are copied to another
 pub assigns-place : (source : Source) (s new : Shape) (to from : GraphPlace) (operand : MirOperand) (span : MirSpan) → IsSound source s → IsOpen s → operand.kind ≡ Copy from → new ≡ with_statement (writing to (Use operand) span) s → (place at : Place) → IsAt s to place → IsAt s from at → Assigns source s new place at
 assigns-place source s new to from operand span sound opened copies same place at is-to is-from =
@@ -109,8 +120,13 @@ assigns-place source s new to from operand span sound opened copies same place a
       does = record {
         reaches = λ whole frame grows whole-sound is lands around stands fuel serves store memory holds.
             let grown : Grows s whole = grows-trans s (with_statement st s) whole (with_statement-grows st s opened) grows in
-            written-copy source s whole frame to (Use operand) span opened whole-sound is serves.world lands grows place (at-later s whole grown to place is-to) store memory holds (place_bytes source store at)
-            (copy-computes source whole frame from at operand copies whole-sound is serves.world (at-later s whole grown from at is-from) store memory holds);
+            let to-is = at-later s whole grown to place is-to in
+            let from-is = at-later s whole grown from at is-from in
+            written-within source s whole frame to (Use operand) span opened whole-sound is serves.world lands grows place to-is store memory holds (is_out_of_bounds source store place || is_out_of_bounds source store at)
+            (assign-out source whole frame to operand place (At at) store memory holds (place-fits source whole frame to place whole-sound is serves.world to-is) (copy-fits source whole frame from at operand copies whole-sound is serves.world from-is))
+            (copy_at source store place (place_bytes source store at))
+            (written-copy source s whole frame to (Use operand) span opened whole-sound is serves.world lands grows place to-is store memory holds (place_bytes source store at)
+            (copy-computes source whole frame from at operand copies whole-sound is serves.world from-is store memory holds));
       };
     })
 
@@ -160,12 +176,12 @@ lowers-assign source s0 s1 s2 s3 new e to value from place c ready form given id
             reaches-then source whole lands frame (here s0) (here s1) (here new) memory (LeadsTo other whole frame) (Nothing whole frame) ((below around).place value store) _
             (given.does.does.reaches whole frame (grows-trans s1 s2 whole idles.grows grown2) sound is lands around stands fuel serves store memory holds)
             (λ path1 store1 memory1 claims1.
-            subst (λ (p : Place). Reaches source whole lands frame (here s1) (here new) memory1 (Nothing whole frame) (then_do (assignee_place source (below around1) to store1) (λ q last. copy_at source last q (place_bytes source last p)))) (sym claims1.1)
+            subst (λ (p : Place). Reaches source whole lands frame (here s1) (here new) memory1 (Nothing whole frame) (then_do (assignee_place source (below around1) to store1) (λ q last. assign_at source q p last))) (sym claims1.1)
             (reaches-from source whole lands frame (here s1) (here s2) (here new) memory1 (Nothing whole frame) (idles.comes whole frame grown2 is memory1) _
             (reaches-then source whole lands frame (here s2) (here s3) (here new) memory1 (LeadsTo at whole frame) (Nothing whole frame) (assignee_place source (below around1) to store1) _
             (assignee.does.does.reaches whole frame grown3 sound is lands around1 (stands-in idles.scope idles.spares.targets (marking-fits given.keeps around stands)) fuel serves store1 memory1 claims1.0)
             (λ path2 store2 memory2 claims2.
-            subst (λ (q : Place). Reaches source whole lands frame (here s3) (here new) memory2 (Nothing whole frame) (copy_at source store2 q (place_bytes source store2 other))) (sym claims2.1)
+            subst (λ (q : Place). Reaches source whole lands frame (here s3) (here new) memory2 (Nothing whole frame) (assign_at source q other store2)) (sym claims2.1)
             (assigns.does.reaches whole frame grows sound is lands (record around { marks = s3.scope }) (stands-with (assignee.keeps.spares.targets ∙ idles.spares.targets ∙ given.keeps.spares.targets) stands) fuel serves store2 memory2 claims2.0)))));
       });
       laid = lays-assign source s0 s1 s2 s3 new e to value from place form given assignee last1 assigns.keeps.grows;

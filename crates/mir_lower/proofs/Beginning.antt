@@ -7,12 +7,12 @@ use Rattle.std.proofs.Math.ListN.{length-replicate}
 use Rattle.types.specs.declared.ty.Ty.{Ty}
 use Rattle.mir.specs.declared.body.Local.{Local}
 use Rattle.mir.specs.declared.ids.LocalId.{LocalId}
-use Rattle.mir_lower.specs.declared.graph.Temps.{Temps}
-use Rattle.source_meaning.specs.Source.{Source, Cell, Result, Node, Binding, Never, binding_type, cell_type, node_type, root}
-use Rattle.mir_lower.specs.Graph.{Shape, no_statements, no_temps, first_shape, local_at, local_of, local_of_type, binding_local, temp_at, temp_of, never_of, with_binding, with_scope}
+use Rattle.mir_graph.specs.declared.graph.Temps.{Temps}
+use Rattle.source_meaning.specs.Source.{Source, Cell, Result, Node, Binding, IndexOf, Never, binding_type, cell_type, node_type, root}
+use Rattle.mir_graph.specs.Graph.{Shape, no_statements, no_temps, first_shape, local_at, local_of, local_of_type, binding_local, temp_at, temp_of, never_of, index_local, with_binding, with_scope}
 use Rattle.mir_lower.specs.Growth.{terminator_at, IsStored, IsFirst, IsSound, IsOpen}
 use Rattle.mir_lower.specs.Order.{first_locals, local_if_any}
-use Rattle.mir_lower.proofs.Lists.{slice_get-front, slice_get-last, slice_get-more, slice_get_below}
+use Rattle.mir_graph.proofs.Lists.{slice_get-front, slice_get-last, slice_get-more, slice_get_below}
 use Rattle.mir_lower.proofs.Sound.{no-more-allotted, one-more-allotted, with_scope-sound, with_scope-open}
 
 -- no expression has a local at first
@@ -22,11 +22,12 @@ none-at which none (suc n) zero l h = cc
 none-at which none (suc n) (suc e) l h = none-at which none n e l h
 
 first-cell : (ty : Ty) (nodes : ℕ) (c : Cell) (l : ℕ) → local_of (first_shape ty nodes) c ≡ Some l → (c ≡ Result) × (l ≡ 0)
-unfolding temp_of never_of binding_local
+unfolding temp_of never_of index_local binding_local
 first-cell ty nodes Result l h = (refl, (let same : 0 ≡ l = cc in sym same))
 first-cell ty nodes (Node e) l h = absurd (none-at (λ temps. temps.value) refl nodes e l h)
 first-cell ty nodes (Binding b) l h = cc
 first-cell ty nodes (Never e) l h = absurd (none-at (λ temps. temps.never) refl nodes e l h)
+first-cell ty nodes (IndexOf e) l h = absurd (none-at (λ temps. temps.index) refl nodes e l h)
 
 -- without a binding
 pub first-none : (source : Source) (ty : Ty) (nodes : ℕ) → nodes ≡ length source.body.exprs → node_type source (root source) ≡ Some ty → IsFirst source 0 (first_shape ty nodes)
@@ -75,32 +76,24 @@ at-more table more i l h =
 
 -- one more binding: where a closure owns it, no cell has another local, and otherwise it has the new one
 unbound-cells : (s : Shape) (c : Cell) (l : ℕ) → local_of (with_binding None s) c ≡ Some l → local_of s c ≡ Some l
-unfolding with_binding temp_of never_of binding_local
-unbound-cells s Result l h = h
-unbound-cells s (Node e) l h = h
-unbound-cells s (Never e) l h = h
+unfolding with_binding temp_of never_of index_local binding_local
 unbound-cells s (Binding b) l h = ⊎_elim (λ last. (let none = last.1 in cc)) (λ front. front) (at-more s.bindings None b l h)
+unbound-cells s _ l h = h
 
 bound-cells : (ty : Ty) (s : Shape) (c : Cell) (l : ℕ) → local_of (with_binding (Some ty) s) c ≡ Some l → ((c ≡ Binding (length s.bindings)) × (l ≡ length s.locals)) ⊎ (local_of s c ≡ Some l)
-unfolding with_binding temp_of never_of binding_local
-bound-cells ty s Result l h = inr h
-bound-cells ty s (Node e) l h = inr h
-bound-cells ty s (Never e) l h = inr h
+unfolding with_binding temp_of never_of index_local binding_local
 bound-cells ty s (Binding b) l h =
     ⊎_elim (λ last. inl (ap Binding last.0, (let is = last.1 in let same : length s.locals ≡ l = cc in sym same))) (λ front. inr front)
     (at-more s.bindings (Some (record { 0 = length s.locals })) b l h)
+bound-cells ty s _ l h = inr h
 
 -- each cell keeps its local
 kept-cells : (ty : Option Ty) (s : Shape) (c : Cell) (l : ℕ) → local_of s c ≡ Some l → local_of (with_binding ty s) c ≡ Some l
-unfolding with_binding temp_of never_of binding_local
-kept-cells None s Result l h = h
-kept-cells None s (Node e) l h = h
-kept-cells None s (Never e) l h = h
+unfolding with_binding temp_of never_of index_local binding_local
 kept-cells None s (Binding b) l h = at-front s.bindings None b l h
-kept-cells (Some ty) s Result l h = h
-kept-cells (Some ty) s (Node e) l h = h
-kept-cells (Some ty) s (Never e) l h = h
 kept-cells (Some ty) s (Binding b) l h = at-front s.bindings (Some (record { 0 = length s.locals })) b l h
+kept-cells None s _ l h = h
+kept-cells (Some ty) s _ l h = h
 
 -- the bindings up to one, and that one
 up-to : (b n : ℕ) → b < n + 1 → (b < n) ⊎ (b ≡ n)

@@ -22,16 +22,15 @@ use Rattle.mir.specs.Run.{Frame, after_statement}
 use Rattle.source_meaning.specs.Around.{Around, marking}
 use Rattle.source_meaning.specs.Ends.{no_cost, End, Go, then_do}
 use Rattle.source_meaning.specs.Events.{marked_as_place, marked_by_statement, marked_by_tail, marked_in_block}
-use Rattle.source_meaning.specs.Meaning.{Levels, level_at, copy_to, bind, statement_of, statements_of, tail_into, block_into}
-use Rattle.source_meaning.specs.Places.{place_bytes}
-use Rattle.source_meaning.specs.Source.{Source, node, own_type, node_type, pattern, Cell, Binding, Place, Store, bound_by, drops}
+use Rattle.source_meaning.specs.Meaning.{Levels, level_at, read_into, bind, statement_of, statements_of, tail_into, block_into}
+use Rattle.source_meaning.specs.Source.{At, Source, node, own_type, node_type, pattern, Cell, Binding, Place, Store, bound_by, drops}
 use Rattle.source_meaning.specs.Steps.{parts_of, statement_parts}
 use Rattle.source_meaning.specs.Valid.{itself, HasPlainForm, IsPlainNode, IsPlainTail, IsLaidOut, NeedsLayout, own, inside, IsLaidOutNode}
 use Rattle.source_meaning.proofs.Costs.{then-then, then-same, then-go}
 use Rattle.source_meaning.proofs.Marks.{let_marks, expression_marks, tail_marks, no_tail_marks, inner_marks, block_marks}
 use Rattle.source_meaning.proofs.Parts.{block_parts, sized_part_is_part}
 use Rattle.mir_lower.specs.Does.{here, IsAt, IsFrameOf, Reaches, Performs, Nothing, LeadsTo, DoesStatements}
-use Rattle.mir_lower.specs.Graph.{Shape, with_statement, with_scope}
+use Rattle.mir_graph.specs.Graph.{Shape, with_statement, with_scope}
 use Rattle.mir_lower.specs.Growth.{Grows, IsSound, IsOpen, IsReady}
 use Rattle.mir_lower.specs.Leaving.{Idles}
 use Rattle.mir_lower.specs.Lowered.{IsPlainWithin, Keeps, LaysOut, IsGiven, Binds, LowersInto, LowersPlace, LowersStatements, LowersTail, LowersOwn}
@@ -39,14 +38,14 @@ use Rattle.mir_lower.specs.Runs.{Point, Comes}
 use Rattle.mir_lower.proofs.Growing.{grows-refl, grows-trans, with_statement-grows, with_scope-grows}
 use Rattle.mir_lower.proofs.Laid.{layouts-before, plain-part, one-of}
 use Rattle.mir_lower.proofs.Leaving.{here-scope}
-use Rattle.mir_lower.proofs.Operations.{assignment, copy-computes}
+use Rattle.mir_lower.proofs.Operations.{assigned-read, assignment, copy-fits}
 use Rattle.mir_lower.proofs.Projecting.{at-later}
 use Rattle.mir_lower.proofs.Reaching.{keeps-refl, comes-refl, comes-from, reaches-then}
 use Rattle.mir_lower.proofs.Running.{comes-statement}
 use Rattle.mir_lower.proofs.Sound.{with_statement-sound, with_statement-open, with_statement-scope}
 use Rattle.mir_lower.proofs.Sparing.{spares-refl, spares-trans, with_statement-spares, scoped-spares}
 use Rattle.mir_lower.proofs.Standing.{marking-fits, marking-none, marking-more, stands-with}
-use Rattle.mir_lower.proofs.Steps.{local_of-grows, assigned-copy, reaches-from, does-form}
+use Rattle.mir_lower.proofs.Steps.{local_of-grows, reaches-from, does-form}
 use Rattle.source_meaning.specs.Core.{CoreExpr}
 use Rattle.types.specs.declared.ty.Ty.{Ty}
 
@@ -89,9 +88,8 @@ binds-name source s0 s1 new pat id to from operand span binds given copies same 
             let found = local_of-grows s1 whole grown (Binding id.0) to.0 given.found in
             let later = at-later s0 whole (grows-trans s0 s1 whole given.keeps.grows grown) from at is-at in
             subst (λ (p : Option BindingId). Reaches source whole lands frame (here s0) (here (with_statement st s1)) memory (Nothing whole frame) (bind source p at store)) (sym binds)
-            (reaches-from source whole lands frame (here s0) (here s1) (here (with_statement st s1)) memory (Nothing whole frame) (given.comes whole frame grown is memory) (copy_to store (record { cell = Binding id.0 }) (place_bytes source store at))
-            (assigned-copy source s1 whole frame to (Use operand) span opened sound is lands grows (Binding id.0) found store memory holds (place_bytes source store at)
-            (copy-computes source whole frame from at operand copies sound is serves.world later store memory holds)));
+            (reaches-from source whole lands frame (here s0) (here s1) (here (with_statement st s1)) memory (Nothing whole frame) (given.comes whole frame grown is memory) (read_into source (At at) (record { cell = Binding id.0 }) store)
+            (assigned-read source s1 whole frame to operand span opened sound is lands grows (Binding id.0) found store memory holds (At at) (copy-fits source whole frame from at operand copies sound is serves.world later)));
       };
     })
 

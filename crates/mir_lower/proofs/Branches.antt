@@ -1,18 +1,18 @@
 -- Code that parts into two branches and joins again: what its graphs keep, and which points its runs reach.
-use Rattle.std.proofs.Common.{◌≡◌, ◌≢◌, ℕ, ◌<◌, ◌≤◌, ⊎_elim, List, ◌++◌, length, Some, sym, ap, ◌∙◌, subst, arith, append_assoc}
+use Rattle.std.proofs.Common.{◌≡◌, ◌≢◌, ℕ, ◌<◌, ◌≤◌, ⊎_elim, true, List, ◌++◌, length, Some, sym, ap, ◌∙◌, subst, arith, append_assoc}
 use Rattle.mir.specs.declared.operand.OperandKind.{OperandKind}
-use Rattle.mir.specs.Memory.{Memory}
-use Rattle.mir.specs.Run.{Frame, operand_bytes}
+use Rattle.mir.specs.Memory.{Memory, number_held}
+use Rattle.mir.specs.Run.{Frame, operand_bytes, operand_out, out_of_bounds}
 use Rattle.numbers.specs.Bytes.{value_of}
 use Rattle.source_meaning.specs.Source.{Source, Cell}
 use Rattle.mir_lower.specs.Branches.{IsReserved, IsForked, HasGoneOn}
 use Rattle.mir_lower.specs.Does.{here, IsFrameOf}
-use Rattle.mir_lower.specs.Graph.{Shape, no_statements}
+use Rattle.mir_graph.specs.Graph.{Shape, no_statements}
 use Rattle.mir_lower.specs.Growth.{Grows, Spares}
 use Rattle.mir_lower.specs.Lowered.{Keeps}
-use Rattle.mir_lower.specs.Runs.{Point, Comes}
+use Rattle.mir_lower.specs.Runs.{Point, run_from, Comes, EndsAfter, IsFault}
 use Rattle.mir_lower.proofs.Growing.{grows-trans}
-use Rattle.mir_lower.proofs.Lists.{slice_get_below}
+use Rattle.mir_graph.proofs.Lists.{slice_get_below}
 use Rattle.mir_lower.proofs.Sparing.{spares-trans, spares-entered}
 
 -- a reserved block is one of the graph's blocks
@@ -109,11 +109,14 @@ module _ {source : Source} {s0 s1 s2 s3 s4 s5 s6 : Shape} {operand : OperandKind
     pub comes-first : (bytes : List ℕ) → operand_bytes frame memory operand ≡ Some bytes → length bytes ≤ 16 → value_of bytes ≡ number → Comes frame 1 0 (here s1) memory (here s2) memory
     comes-first bytes found short same = branched.forked.taken whole frame (grows-trans s2 s6 whole grows2 grows) is memory bytes found short same
 
-    -- and else to the second;
+    -- and else to the second, or ends the run where the operand is out of bounds;
     pub comes-second : (bytes : List ℕ) → operand_bytes frame memory operand ≡ Some bytes → length bytes ≤ 16 → value_of bytes ≢ number → Comes frame 1 0 (here s1) memory (here s4) memory
     comes-second bytes found short differ =
         subst (λ (p : Point). Comes frame 1 0 (here s1) memory p memory) (sym branched.one_ended.begins)
         (branched.forked.left whole frame (grows-trans s2 s6 whole grows2 grows) is memory bytes found short differ)
+
+    pub ends-out : operand_out frame.program.world frame.body (number_held memory frame.cells) operand ≡ true → EndsAfter 0 (IsFault out_of_bounds) (run_from frame memory (here s1))
+    ends-out out = branched.forked.out whole frame (grows-trans s2 s6 whole grows2 grows) is memory out
 
     -- from the end of either branch the run reaches the join.
     pub first-joins : Comes frame 1 0 (here s3) memory (here s6) memory

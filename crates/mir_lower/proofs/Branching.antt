@@ -3,22 +3,22 @@ use Rattle.std.proofs.Common.{◌≡◌, ℕ, Bool, true, false, List, [], ◌�
 use Rattle.std.proofs.lemmas.Bool.{eqb-true, eqb-false}
 use Rattle.std.proofs.lemmas.List.Elements.{Contains-append_left}
 use Rattle.mir.specs.declared.operand.OperandKind.{OperandKind}
-use Rattle.mir.specs.Memory.{Memory}
-use Rattle.mir.specs.Run.{Frame, operand_bytes as mir_bytes}
+use Rattle.mir.specs.Memory.{Memory, number_held}
+use Rattle.mir.specs.Run.{Frame, operand_bytes as mir_bytes, operand_out as mir_out}
 use Rattle.numbers.specs.Bytes.{value_of}
 use Rattle.source_meaning.specs.Ends.{End, Go, Stuck, turns_alone, after, then_do}
-use Rattle.source_meaning.specs.Meaning.{is_byte, branched}
+use Rattle.source_meaning.specs.Meaning.{is_byte, branched, within_bounds}
 use Rattle.source_meaning.specs.Core.{is_truth}
 use Rattle.source_meaning.specs.Source.{Source, unadjusted, own_type, node_type, Cell}
 use Rattle.source_meaning.specs.Steps.{Operand}
 use Rattle.source_meaning.specs.Valid.{IsLaidOut, NeedsLayout, sized_part, IsLaidOutNode}
 use Rattle.source_meaning.proofs.Parts.{sized_operand}
 use Rattle.mir_lower.specs.Does.{here, IsFrameOf, Landings, Reaches, Nothing}
-use Rattle.mir_lower.specs.Graph.{Shape}
+use Rattle.mir_graph.specs.Graph.{Shape}
 use Rattle.mir_lower.specs.Growth.{Grows}
 use Rattle.mir_lower.specs.Lowered.{IsPlainWithin, HasLayouts, LowersInto, LowersOperand}
 use Rattle.mir_lower.specs.Runs.{Comes}
-use Rattle.mir_lower.proofs.Branches.{IsBranched, comes-first, comes-second, first-joins, second-joins}
+use Rattle.mir_lower.proofs.Branches.{IsBranched, comes-first, comes-second, ends-out, first-joins, second-joins}
 use Rattle.mir_lower.proofs.Laid.{layouts-before, one-of}
 use Rattle.mir_lower.proofs.Reaching.{reaches-after, reaches-then}
 
@@ -50,11 +50,16 @@ module _ {source : Source} {s0 s1 s2 s3 s4 s5 s6 : Shape} {operand : OperandKind
     without = subst (λ (end : End (Unit {0})). Reaches source whole lands frame (here s1) (here s6) memory (Nothing whole frame) (branched end)) (sym stuck) stuck-branch
 
     -- by the operand's byte one of the branches is taken; other bytes than one have no meaning
-    pub reaches-branched : (bytes : Option (List ℕ)) → mir_bytes frame memory operand ≡ bytes → Reaches source whole lands frame (here s1) (here s6) memory (Nothing whole frame) (branched (branch (is_byte number bytes)))
+    reaches-branched : (bytes : Option (List ℕ)) → mir_bytes frame memory operand ≡ bytes → Reaches source whole lands frame (here s1) (here s6) memory (Nothing whole frame) (branched (branch (is_byte number bytes)))
     reaches-branched None has = without
     reaches-branched (Some []) has = without
     reaches-branched (Some (byte ∷ [])) has = by-test byte has (eqb byte number) refl
     reaches-branched (Some (byte ∷ more ∷ rest)) has = without
+
+    -- an operand that is out of bounds is a panic before that
+    pub reaches-tested : (out : Bool) → mir_out frame.program.world frame.body (number_held memory frame.cells) operand ≡ out → (bytes : Option (List ℕ)) → mir_bytes frame memory operand ≡ bytes → Reaches source whole lands frame (here s1) (here s6) memory (Nothing whole frame) (within_bounds out (branched (branch (is_byte number bytes))))
+    reaches-tested true tested bytes has = inr (ends-out parts whole frame grows is memory tested)
+    reaches-tested false tested bytes has = reaches-branched bytes has
 
 -- an operand that is tested, where it needs a layout
 pub lays-tested : (source : Source) (s0 s1 new : Shape) (e child : ℕ) (operand : OperandKind) → LowersOperand source s0 s1 e operand → Grows s1 new → Contains (sized_part source (Operand e)) child → IsPlainWithin source child → HasLayouts source new → (f : ℕ) → NeedsLayout source child f → IsLaidOutNode source f

@@ -6,10 +6,10 @@ use Rattle.mir.specs.declared.ids.LocalId.{LocalId}
 use Rattle.source_meaning.specs.Around.{is_meant, meant}
 use Rattle.source_meaning.specs.Built.{IsBinding, NamesBinding, CallsFunction, IsBuiltAssigned, IsBuiltAssignee, IsBuiltStatement, IsBuiltStrict}
 use Rattle.numbers.specs.declared.operator.Operator.{Operator}
-use Rattle.source_meaning.specs.Core.{Assigned, Assignee, ByField, ByPath, CoreExpr, CoreLiteral, Operation, PlaceElem}
+use Rattle.source_meaning.specs.Core.{Assigned, Assignee, ByField, ByPath, CoreExpr, CoreLiteral, Operation, PlaceElem, ElementAt, FieldOf, Part}
 use Rattle.source_meaning.specs.Core as expr
 use Rattle.source_meaning.specs.Source.{Source, Binding, node}
-use Rattle.source_meaning.specs.Steps.{assigned_parts, assignee_parts, parts_of, statement_parts}
+use Rattle.source_meaning.specs.Steps.{field_parts, assigned_parts, assignee_parts, parts_of, statement_parts}
 use Rattle.source_meaning.specs.Valid.{Evaluates, itself, part}
 use Rattle.source_meaning.proofs.Parts.{strict_parts, call_parts, if_parts, block_parts, tail_part}
 use Rattle.types.specs.declared.ids.BindingId.{BindingId}
@@ -20,7 +20,7 @@ use Rattle.world.specs.Nodes.{optional}
 use Rattle.world.specs.declared.body.Statement.{Statement}
 use Rattle.mir_lower.specs.Built.{HasTarget, IsBuiltNode, IsBuilt, IsBuiltThrough}
 use Rattle.body_forms.specs.Literals.{IsBuiltLiteral}
-use Rattle.mir_lower.specs.Graph.{Shape, OpenTarget, binding_local, meant_target, opened_of}
+use Rattle.mir_graph.specs.Graph.{Shape, OpenTarget, binding_local, meant_target, opened_of}
 use Rattle.mir_lower.specs.Growth.{IsAround, IsSound}
 
 -- a binding that has a local is one of the body
@@ -52,8 +52,8 @@ built-path source e name is named = built-node source e (Some (expr.Path name)) 
 pub one-built : (source : Source) (e : ℕ) → IsBuilt source e → All (IsBuilt source) (e ∷ [])
 one-built source e built = All-cons (IsBuilt source) e [] built (All-nil (IsBuilt source))
 
-pub built-field : (source : Source) (e base : ℕ) (elem : PlaceElem) → node source e ≡ Some (expr.Field base elem) → IsBuilt source base → IsBuilt source e
-built-field source e base elem is built = built-node source e (Some (expr.Field base elem)) is tt (one-built source base built)
+pub built-field : (source : Source) (e base : ℕ) (elem : PlaceElem) → node source e ≡ Some (expr.Field base elem) → All (IsBuilt source) (field_parts base elem) → IsBuilt source e
+built-field source e base elem is built = built-node source e (Some (expr.Field base elem)) is tt built
 
 pub built-strict : (source : Source) (e : ℕ) (operation : Operation) (operands : List ℕ) → node source e ≡ Some (expr.Strict operation operands) → IsBuiltStrict source e operation → All (IsBuilt source) operands → IsBuilt source e
 built-strict source e operation operands is own built =
@@ -82,7 +82,9 @@ built-assign source e to value is own parts built =
 
 compound-built : (source : Source) (to : Assigned) (value : ℕ) (op : Operator) → All (IsBuilt source) (assigned_parts to) → IsBuilt source value → All (IsBuilt source) (parts_of (Some (expr.Compound op to value)))
 compound-built source (ByPath e) value op parts built = one-built source value built
-compound-built source (ByField base elem) value op parts built = two-built source base value (All-head (IsBuilt source) base [] parts) built
+compound-built source (ByField base (Part index)) value op parts built = All-append (IsBuilt source) (base ∷ []) (value ∷ []) parts (one-built source value built)
+compound-built source (ByField base (FieldOf field)) value op parts built = All-append (IsBuilt source) (base ∷ []) (value ∷ []) parts (one-built source value built)
+compound-built source (ByField base (ElementAt n index)) value op parts built = All-append (IsBuilt source) (base ∷ index ∷ []) (value ∷ []) parts (one-built source value built)
 
 pub built-compound : (source : Source) (e : ℕ) (op : Operator) (to : Assigned) (value : ℕ) → node source e ≡ Some (expr.Compound op to value) → IsBuiltAssigned source to → All (IsBuilt source) (assigned_parts to) → IsBuilt source value → IsBuilt source e
 built-compound source e op to value is own parts built =

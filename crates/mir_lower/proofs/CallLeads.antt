@@ -9,11 +9,10 @@ use Rattle.mir.specs.declared.address.Interval.{Interval}
 use Rattle.mir.specs.declared.body.MirBody.{MirBody}
 use Rattle.mir.specs.declared.errors.MirEvalError.{MirEvalError}
 use Rattle.mir.specs.declared.errors.MirEvalError as error
-use Rattle.mir.specs.Memory.{Memory}
-use Rattle.mir.specs.Places.{place_cell}
+use Rattle.mir.specs.Memory.{Memory, number_held}
 use Rattle.mir.specs.Projections.{empty_id}
 use Rattle.mir.proofs.WholePlaces.{whole-cell}
-use Rattle.mir.specs.Run.{Frame, Waiting, Calling, GoesTo, Faulted, operand_type as mir_type, function_in as mir_function_in, filled as mir_filled, body_query, bad_write, trail_of, faults, levels_over, waiting, called_cells, called as mir_called, called_by, calls, entered, resumed, after_return, going_on}
+use Rattle.mir.specs.Run.{Frame, Waiting, Calling, GoesTo, Faulted, operand_type as mir_type, function_in as mir_function_in, filled as mir_filled, body_query, bad_write, trail_of, faults, levels_over, waiting, called_cells, cell_now, called as mir_called, called_by, calls, entered, resumed, after_return, going_on}
 use Rattle.mir_lower.specs.Runs.{Entry, Exit, run_from}
 use Rattle.mir_lower.specs.Stops.{without_arguments}
 
@@ -36,20 +35,20 @@ module _ (frame : Frame) (memory : Memory) (call : Calling) (id : FunctionId) wh
     unfolding mir_called
     called-into next cell target is-whole there =
         ap (λ (o : Option ℕ). elim o [
-          | Some block ↦ elim (place_cell frame.program.world frame.body frame.cells call.destination) [
+          | Some block ↦ elim (cell_now frame memory call.destination) [
             | Some cell ↦ entered frame memory call id body (Some cell)
             | None ↦ faults frame bad_write
           ]
           | None ↦ if nat_le (suc (levels_over frame.below)) frame.program.nesting then entered frame memory call id body None else faults frame error.StackOverflow
         ]) target
         ∙ ap (λ (o : Option Interval). elim o [ Some cell ↦ entered frame memory call id body (Some cell) | None ↦ faults frame bad_write ])
-        (whole-cell frame.program.world frame.body frame.cells call.destination is-whole ∙ there)
+        (whole-cell frame.program.world frame.body (number_held memory frame.cells) frame.cells call.destination is-whole ∙ there)
 
     pub called-alone : (deep : Bool) → call.target ≡ None → nat_le (suc (levels_over frame.below)) frame.program.nesting ≡ deep → mir_called frame memory call id body ≡ cond deep (entered frame memory call id body None) (faults frame error.StackOverflow)
     unfolding mir_called
     called-alone deep target levels =
         ap (λ (o : Option ℕ). elim o [
-          | Some block ↦ elim (place_cell frame.program.world frame.body frame.cells call.destination) [
+          | Some block ↦ elim (cell_now frame memory call.destination) [
             | Some cell ↦ entered frame memory call id body (Some cell)
             | None ↦ faults frame bad_write
           ]

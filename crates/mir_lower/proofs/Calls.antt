@@ -18,8 +18,8 @@ use Rattle.source_meaning.specs.Calls.{must_not_return, source_called}
 use Rattle.source_meaning.specs.Core as expr
 use Rattle.source_meaning.specs.Core.{is_truth}
 use Rattle.source_meaning.specs.Ends.{Stuck}
-use Rattle.source_meaning.specs.Meaning.{Callees, level_at, callees_at, operands_of, entered_into, into_of}
-use Rattle.source_meaning.specs.Places.{operands_bytes}
+use Rattle.source_meaning.specs.Meaning.{Callees, level_at, callees_at, operands_of, entered_into, into_of, within_bounds}
+use Rattle.source_meaning.specs.Places.{operands_bytes, some_out}
 use Rattle.source_meaning.specs.Source.{Source, node, unadjusted, Cell, Path, Store, Operand}
 use Rattle.source_meaning.specs.Valid.{own, inside, sized_parts, IsLaidOutNode}
 use Rattle.source_meaning.proofs.Depth.{argument_is_part}
@@ -31,13 +31,13 @@ use Rattle.mir_lower.specs.Callees.{Serves}
 use Rattle.mir_lower.specs.Calling.{call_terminator, call_of, target_of_call, HasCalled}
 use Rattle.mir_lower.specs.Does.{Stands, here, IsFrameOf, Holds, Landings, Reaches, Nothing, FitAll}
 use Rattle.mir.specs.WholePlaces.{whole_place}
-use Rattle.mir_lower.specs.Graph.{Shape, with_block, with_terminator, local_of, ended}
+use Rattle.mir_graph.specs.Graph.{Shape, with_block, with_terminator, local_of, ended}
 use Rattle.mir_lower.specs.Growth.{Grows, Spares, IsSound, IsOpen, IsReady}
 use Rattle.mir_lower.specs.Lowered.{LaysOut, LowersOwn, LowersOperand, LowersOperands}
 use Rattle.mir_lower.specs.Runs.{Point, start_of}
 use Rattle.mir_lower.specs.Stops.{MakesCall}
 use Rattle.mir_lower.proofs.Arguments.{ShowAll, shows-all}
-use Rattle.mir_lower.proofs.Entering.{call-returns, call-strays}
+use Rattle.mir_lower.proofs.Entering.{call-panics, call-returns, call-strays}
 use Rattle.mir_lower.proofs.Growing.{current_of, grows-refl, grows-trans, with_terminator-is, with_terminator-grows, with_block-grows}
 use Rattle.mir_lower.proofs.Laid.{layouts-before, plain-part}
 use Rattle.mir_lower.proofs.Leaving.{run-terminator, here-with_block}
@@ -47,6 +47,7 @@ use Rattle.mir_lower.proofs.Sound.{with_terminator-sound, with_terminator-scope,
 use Rattle.mir_lower.proofs.Sparing.{spares-refl, spares-trans, with_terminator-spares, with_block-spares}
 use Rattle.mir_lower.proofs.Steps.{local_of-grows, does-with-callees}
 use Rattle.mir_lower.proofs.Strict.{lowers-no-operand, lowers-more-operands}
+use Rattle.mir_lower.proofs.Within.{some-out-same}
 
 -- Operands so far: where those behind them are lowered, so are all.
 pub record Collects (source : Source) (s0 s : Shape) (es rest : List ℕ) (operands : List OperandKind) : Type 0 where
@@ -181,9 +182,19 @@ lowers-call source s0 s1 new e callee es func args to next ready form given is b
       by-given whole frame grows sound frame-is lands fuel serves values store memory holds fit None is =
           subst (Reaches source whole lands frame (here s1) (here new) memory (Nothing whole frame)) (sym (enters-nothing (callees_at fuel) (must_not_return source e.0) (source_called source e.0 callee) (record { cell = c }) store)) (inr tt)
 
+      -- by whether an argument is out of bounds
+      by-out : (whole : Shape) (frame : Frame) → Grows new whole → IsSound source whole → IsFrameOf whole frame → (lands : Landings) (fuel : ℕ) → Serves (suc fuel) source frame.program → (values : List Operand) (store : Store) (memory : Memory) → Holds whole frame store memory →
+          FitAll source (map (λ (arg : MirOperand). arg.kind) args) whole frame values → (out : Bool) → some_out source store values ≡ out →
+          Reaches source whole lands frame (here s1) (here new) memory (Nothing whole frame) (within_bounds out (entered_into (callees_at fuel) (must_not_return source e.0) (source_called source e.0 callee) (operands_bytes source store values) (record { cell = c }) store))
+      by-out whole frame grows sound frame-is lands fuel serves values store memory holds fit true outside =
+          call-panics frame (here s1) memory (call_of e func args (whole_place to) (target_of_call (must_not_return source e.0) next)) is.ty (callee-type frame func.kind source e.0 callee is) built.id (is.names ∙ built.names)
+          (called.does whole frame grows frame-is memory) source whole lands (here new) makes (some-out-same source whole frame store memory holds args values fit ∙ outside)
+      by-out whole frame grows sound frame-is lands fuel serves values store memory holds fit false outside =
+          by-given whole frame grows sound frame-is lands fuel serves values store memory holds fit (operands_bytes source store values) refl
+
       reaches : (whole : Shape) (frame : Frame) → Grows new whole → IsSound source whole → IsFrameOf whole frame → (lands : Landings) (around : Around) → Stands whole s0 lands around → (fuel : ℕ) → Serves (suc fuel) source frame.program → (store : Store) (memory : Memory) → Holds whole frame store memory →
           Reaches source whole lands frame (here s0) (here new) memory (Nothing whole frame) (into_of source (level_at source fuel) (callees_at fuel) around e.0 (Some (expr.Call callee es)) (record { cell = c }) store)
       reaches whole frame grows sound frame-is lands around stands fuel serves store memory holds =
           reaches-then source whole lands frame (here s0) (here s1) (here new) memory (FitAll source (map (λ (arg : MirOperand). arg.kind) args) whole frame) (Nothing whole frame) (operands_of source (level_at source fuel) around es store) _
           (given.does.reaches whole frame (grows-trans s1 new whole called.grows grows) sound frame-is lands around stands fuel (serves-less fuel source frame.program serves) store memory holds)
-          (λ values store1 memory1 claims. by-given whole frame grows sound frame-is lands fuel serves values store1 memory1 claims.0 claims.1 (operands_bytes source store1 values) refl)
+          (λ values store1 memory1 claims. by-out whole frame grows sound frame-is lands fuel serves values store1 memory1 claims.0 claims.1 (some_out source store1 values) refl)

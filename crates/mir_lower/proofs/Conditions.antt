@@ -10,13 +10,13 @@ use Rattle.mir.specs.declared.operand.OperandKind.{OperandKind}
 use Rattle.mir.specs.declared.ids.LocalId.{LocalId}
 use Rattle.mir.specs.declared.operand.Rvalue.TheVariants.{Use}
 use Rattle.mir.specs.declared.span.MirSpan.{MirSpan}
-use Rattle.mir.specs.Memory.{Memory}
-use Rattle.mir.specs.Run.{Frame, rvalue_bytes, read}
+use Rattle.mir.specs.Memory.{Memory, number_held}
+use Rattle.mir.specs.Run.{Frame, rvalue_bytes, read, reads_out}
 use Rattle.source_meaning.specs.Around.{Around, marking}
 use Rattle.source_meaning.specs.Ends.{after}
 use Rattle.source_meaning.specs.Events.{marked, marked_as_operand, marked_by_tail}
-use Rattle.source_meaning.specs.Meaning.{level_at, copy_to, deciding_byte, reading_cost, decided_into, branch_into}
-use Rattle.source_meaning.specs.Places.{operand_bytes}
+use Rattle.source_meaning.specs.Meaning.{level_at, copy_to, deciding_byte, read_into, reading_cost, decided_into, branch_into}
+use Rattle.source_meaning.specs.Places.{operand_bytes, operand_out}
 use Rattle.source_meaning.specs.Source.{Source, node, own_type, Cell, Store, Operand, Literally, At}
 use Rattle.source_meaning.specs.Steps.{parts_of, tail_steps}
 use Rattle.source_meaning.specs.Steps as step
@@ -25,18 +25,18 @@ use Rattle.source_meaning.proofs.Depth.{logic_operand_is_part, if_part_is_part, 
 use Rattle.source_meaning.proofs.Marks.{logic_marks, if_marks}
 use Rattle.source_meaning.proofs.Parts.{sized_part_is_part}
 use Rattle.mir_lower.specs.Does.{Stands, here, IsFrameOf, Holds, Landings, Reaches, Nothing, Fits}
-use Rattle.mir_lower.specs.Graph.{Shape, with_statement, local_of}
+use Rattle.mir_graph.specs.Graph.{Shape, with_statement, local_of}
 use Rattle.mir_lower.specs.Growth.{Grows, IsSound, IsOpen, IsReady}
 use Rattle.mir_lower.specs.Lowered.{IsPlainWithin, Keeps, HasLayouts, LaysOut, LowersInto, LowersOperand, LowersTail, LowersOwn}
 use Rattle.mir_lower.specs.Runs.{Comes}
 use Rattle.mir_lower.proofs.Branches.{IsBranched, grows5, grows3, grows1, branched-keeps}
-use Rattle.mir_lower.proofs.Branching.{reaches-branched, lays-tested, lays-into}
+use Rattle.mir_lower.proofs.Branching.{reaches-tested, lays-tested, lays-into}
 use Rattle.mir_lower.proofs.Growing.{grows-trans}
 use Rattle.mir_lower.proofs.Laid.{layouts-before, plain-part, one-of}
 use Rattle.mir_lower.proofs.Operations.{assignment, keeps-assigned}
 use Rattle.mir_lower.proofs.Reaching.{comes-refl, reaches-after, reaches-then}
 use Rattle.mir_lower.proofs.Standing.{marking-fits, stands-in}
-use Rattle.mir_lower.proofs.Steps.{local_of-grows, assigned-copy, does-form}
+use Rattle.mir_lower.proofs.Steps.{local_of-grows, assigned-copy, assigned-within, does-form}
 
 -- What is lowered is a part: the operands of `&&` and `||`, the condition and the branches of an `if`, and what may be left out.
 
@@ -102,11 +102,11 @@ module _ (source : Source) (s0 s1 s2 s3 s4 s5 s6 : Shape) (e condition then_bran
               reaches-then source whole lands frame (here s0) (here s1) (here s6) memory (Fits source operand whole frame) (Nothing whole frame) ((below around).operand condition store) _
               (tested.does.reaches whole frame grown1 sound is lands around stands fuel serves store memory holds)
               (λ given store1 memory1 claims.
-              reaches-branched parts whole frame grows is lands memory1
+              reaches-tested parts whole frame grows is lands memory1
               (λ test. branch_into source below around1 then_branch else_branch test (record { cell = c }) store1) refl
               (first.does.reaches whole frame grown3 sound is lands around1 stands1 fuel serves store1 memory1 claims.0)
               (second.does.reaches whole frame grown5 sound is lands around2 stands2 fuel serves store1 memory1 claims.0)
-              (operand_bytes source store1 given) (claims.1.bytes store1 memory1 claims.0));
+              (operand_out source store1 given) (claims.1.out store1 memory1 claims.0) (operand_bytes source store1 given) (claims.1.bytes store1 memory1 claims.0));
         });
         laid = lays-if;
       }
@@ -116,6 +116,10 @@ module _ (source : Source) (s0 s1 s2 s3 s4 s5 s6 : Shape) (e condition then_bran
 decided-computes : (source : Source) (whole : Shape) (frame : Frame) (operand : MirOperand) (given : Operand) (store : Store) (memory : Memory) → Holds whole frame store memory → Fits source operand.kind whole frame given → rvalue_bytes frame memory (Use operand) ≡ read (operand_bytes source store given)
 unfolding rvalue_bytes
 decided-computes source whole frame operand given store memory holds fits = ap read (fits.bytes store memory holds)
+
+decided-reads : (source : Source) (whole : Shape) (frame : Frame) (operand : MirOperand) (given : Operand) (store : Store) (memory : Memory) → Holds whole frame store memory → Fits source operand.kind whole frame given → reads_out frame.program.world frame.body (number_held memory frame.cells) (Use operand) ≡ operand_out source store given
+unfolding reads_out
+decided-reads source whole frame operand given store memory holds fits = fits.out store memory holds
 
 -- reading an operand once more enters no block
 reading-enters-none : (source : Source) (given : Operand) → (reading_cost source given).turns ≡ 0
@@ -127,14 +131,15 @@ module _ (source : Source) (s new : Shape) (operand : MirOperand) (to : LocalId)
   pub keeps-decided : IsSound source s → Keeps source s new []
   keeps-decided sound = subst (λ (n : Shape). Keeps source s n []) (sym same) (keeps-assigned source s (assignment to (Use operand) span) sound opened)
 
-  reaches-decided : (whole : Shape) (lands : Landings) (frame : Frame) (c : Cell) (given : Operand) (store : Store) (memory : Memory) → Grows new whole → IsSound source whole → IsFrameOf whole frame → local_of whole c ≡ Some to.0 → Holds whole frame store memory → Fits source operand.kind whole frame given → Reaches source whole lands frame (here s) (here new) memory (Nothing whole frame) (after (reading_cost source given) (copy_to store (record { cell = c }) (operand_bytes source store given)))
+  reaches-decided : (whole : Shape) (lands : Landings) (frame : Frame) (c : Cell) (given : Operand) (store : Store) (memory : Memory) → Grows new whole → IsSound source whole → IsFrameOf whole frame → local_of whole c ≡ Some to.0 → Holds whole frame store memory → Fits source operand.kind whole frame given → Reaches source whole lands frame (here s) (here new) memory (Nothing whole frame) (after (reading_cost source given) (read_into source given (record { cell = c }) store))
   reaches-decided whole lands frame c given store memory grows sound is local holds fits =
       let grown = subst (λ (n : Shape). Grows n whole) same grows in
       let reads : Comes frame (reading_cost source given).turns (reading_cost source given).bytes (here s) memory (here s) memory =
       subst (λ (n : ℕ). Comes frame n (reading_cost source given).bytes (here s) memory (here s) memory) (sym (reading-enters-none source given)) (comes-refl frame (here s) memory) in
-      subst (λ (n : Shape). Reaches source whole lands frame (here s) (here n) memory (Nothing whole frame) (after (reading_cost source given) (copy_to store (record { cell = c }) (operand_bytes source store given)))) (sym same)
-      (reaches-after source whole lands frame (here s) (here s) (here (with_statement (assignment to (Use operand) span) s)) memory memory (Nothing whole frame) (reading_cost source given) reads (copy_to store (record { cell = c }) (operand_bytes source store given))
-      (assigned-copy source s whole frame to (Use operand) span opened sound is lands grown c local store memory holds (operand_bytes source store given) (decided-computes source whole frame operand given store memory holds fits)))
+      subst (λ (n : Shape). Reaches source whole lands frame (here s) (here n) memory (Nothing whole frame) (after (reading_cost source given) (read_into source given (record { cell = c }) store))) (sym same)
+      (reaches-after source whole lands frame (here s) (here s) (here (with_statement (assignment to (Use operand) span) s)) memory memory (Nothing whole frame) (reading_cost source given) reads (read_into source given (record { cell = c }) store)
+      (assigned-within source s whole frame to (Use operand) span opened sound is lands grown c local store memory holds (operand_out source store given) (decided-reads source whole frame operand given store memory holds fits) (copy_to store (record { cell = c }) (operand_bytes source store given))
+      (λ within. assigned-copy source s whole frame to (Use operand) span opened sound is lands grown c local store memory holds (operand_bytes source store given) (decided-computes source whole frame operand given store memory holds fits))))
 
 module _ (source : Source) (s0 s1 s2 s3 s4 s5 s6 : Shape) (e : ℕ) (op : LogicOp) (left right : ℕ) (operand : MirOperand) (to : LocalId) (span : MirSpan) (other join : ℕ) (c : Cell) (form : node source e ≡ Some (expr.Logic op left right)) (tested : LowersOperand source s0 s1 left operand.kind) (same : s3 ≡ with_statement (assignment to (Use operand) span) s2) (second : LowersInto source s4 s5 right c) (parts : IsBranched source s0 s1 s2 s3 s4 s5 s6 operand.kind (deciding_byte op) other join (marked_as_operand source left) [] (marked source right)) where
   lays-logic : IsLaidOutNode source e → LaysOut source s6 e
@@ -165,11 +170,11 @@ module _ (source : Source) (s0 s1 s2 s3 s4 s5 s6 : Shape) (e : ℕ) (op : LogicO
               reaches-then source whole lands frame (here s0) (here s1) (here s6) memory (Fits source operand.kind whole frame) (Nothing whole frame) ((below around).operand left store) _
               (tested.does.reaches whole frame grown1 sound is lands around stands fuel serves store memory holds)
               (λ given store1 memory1 claims.
-              reaches-branched parts whole frame grows is lands memory1
+              reaches-tested parts whole frame grows is lands memory1
               (λ test. decided_into source (below around1) given right test (record { cell = c }) store1) refl
               (reaches-decided source s2 s3 operand to span parts.forked.«open» same whole lands frame c given store1 memory1 grown3 sound is found claims.0 claims.1)
               (second.does.reaches whole frame grown5 sound is lands around1 stands1 fuel serves store1 memory1 claims.0)
-              (operand_bytes source store1 given) (claims.1.bytes store1 memory1 claims.0));
+              (operand_out source store1 given) (claims.1.out store1 memory1 claims.0) (operand_bytes source store1 given) (claims.1.bytes store1 memory1 claims.0));
         });
         laid = lays-logic;
       }

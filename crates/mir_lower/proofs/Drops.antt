@@ -2,13 +2,13 @@
 use Rattle.std.proofs.Common.{◌≡◌, ℕ, zero, suc, Some, ◌+◌, ◌<◌, ◌≤◌, Bool, true, false, cond, List, [], ◌∷◌, ◌++◌, length, take, drop, refl, sym, ap, ◌∙◌, subst, arith, ◌⊎◌, inr, ⊎_elim, append_assoc, append-nil, length-append}
 use Rattle.std.specs.Prelude.{filter, slice_get, option_map}
 use Rattle.std.proofs.lemmas.Option.{slice_get-map}
-use Rattle.mir_lower.specs.declared.graph.Marked.{Marked}
+use Rattle.mir_graph.specs.declared.graph.Marked.{Marked}
 use Rattle.std.proofs.Math.Seq.{take-append_seam, drop-append_seam}
 use Rattle.source_meaning.specs.Source.{Source, Cell, is_dropped, drops}
-use Rattle.mir_lower.specs.Graph.{Shape, cell_of, cells_of, with_scope, with_mark}
+use Rattle.mir_graph.specs.Graph.{Shape, cell_of, cells_of, with_scope, with_mark}
 use Rattle.mir_lower.specs.Growth.{IsSound, IsOpen}
 use Rattle.mir_lower.specs.Leaving.{Idles, one_if}
-use Rattle.mir_lower.proofs.Lists.{drop-at}
+use Rattle.mir_graph.proofs.Lists.{drop-at}
 use Rattle.mir_lower.proofs.Leaving.{idles-refl, idles-trans, idles-scoped}
 use Rattle.mir_lower.proofs.Sound.{with_scope-sound, with_scope-open}
 

@@ -1,5 +1,5 @@
 -- A call: its callee's body runs in the caller's run, from the arguments on, and the caller goes on with the value.
-use Rattle.std.proofs.Common.{◌≡◌, ℕ, suc, ◌+◌, ◌-◌, ◌<◌, ◌≤◌, ◌⊎◌, ⊎_elim, inl, inr, Bool, true, false, cond, List, ◌∷◌, Option, Some, None, Result, Ok, Err, refl, sym, ap, ◌∙◌, subst, arith}
+use Rattle.std.proofs.Common.{◌≡◌, ℕ, suc, ◌+◌, ◌-◌, ◌<◌, ◌≤◌, ◌⊎◌, ⊎_elim, inl, inr, Bool, true, false, cond, List, [], ◌∷◌, Option, Some, None, Result, Ok, Err, refl, sym, ap, ◌∙◌, subst, arith}
 use Rattle.std.specs.Prelude.{slice_get, nat_le, option_and_then, codes}
 use borrow.Author.Tests.{leb-false}
 use Rattle.std.proofs.lemmas.List.{length-replicate}
@@ -15,20 +15,21 @@ use Rattle.mir.specs.declared.answers.Answer.TheVariants as told
 use Rattle.mir.specs.declared.body.MirBody.{MirBody}
 use Rattle.mir.specs.declared.errors.MirEvalError.{MirEvalError}
 use Rattle.mir.specs.declared.errors.MirEvalError as error
-use Rattle.mir.specs.Memory.{Memory, cell_bytes}
-use Rattle.mir.specs.Run.{Program, Frame, Calling, Ending, Faulted, Asked, Ended, operand_type as mir_type, body_query, trail_of, levels_over, entry_of, callee_error, called_cells, called as mir_called, called_by, calls, entered, going_on}
+use Rattle.mir.specs.declared.operand.Operand.{Operand as MirOperand}
+use Rattle.mir.specs.Memory.{Memory, cell_bytes, number_held}
+use Rattle.mir.specs.Run.{Program, Frame, Calling, Ending, Faulted, Asked, Ended, Next, Stops, operand_type as mir_type, body_query, trail_of, levels_over, entry_of, callee_error, called_cells, called as mir_called, called_by, calls, calls_out, entered, going_on, led, out_of_bounds as mir_out_of_bounds, some_out}
 use Rattle.source_meaning.specs.Around.{at_root, marking}
 use Rattle.source_meaning.specs.Calls.{function_called, function_in, source_of, source_called, parameter_cells, filled, started}
 use Rattle.source_meaning.specs.Ends.{Cost, no_cost, turns_alone, one_level_more, plus, End, Fault, Panic, Undefined, NoLayout, Go, Jumps, Faults, Stuck, More, after, then_do}
 use Rattle.source_meaning.specs.Entering.{body_room, entering as entering_cost, is_cost_defined}
 use Rattle.source_meaning.specs.Laid.{is_laid_out}
-use Rattle.source_meaning.specs.Meaning.{put, call_returned, call_diverged, call_ended, entered_from, entered_into, level_at, callees_at, meaning_from, returned, unfit_meaning, where_laid}
+use Rattle.source_meaning.specs.Meaning.{out_of_bounds, put, call_returned, call_diverged, call_ended, entered_from, entered_into, level_at, callees_at, meaning_from, returned, unfit_meaning, where_laid}
 use Rattle.source_meaning.specs.Source.{Source, Cell, Result as Slot, Binding, cell_size, Path, Store, root, zeroed, with_cell_bytes}
 use Rattle.source_meaning.specs.Valid.{Calls, at_once, through}
 use Rattle.source_meaning.proofs.Calls.{called_by_name, called_is_checked, called_world}
 use Rattle.mir_lower.specs.Callees.{RunsAs, DoesBelow, Serves, cost_once_placed, once_placed}
 use Rattle.mir_lower.specs.Does.{IsFrameOf, Holds, Landings, Reaches, Nothing}
-use Rattle.mir_lower.specs.Graph.{Shape, local_of}
+use Rattle.mir_graph.specs.Graph.{Shape, local_of}
 use Rattle.mir_lower.specs.Growth.{IsSound}
 use Rattle.mir_lower.specs.Runs.{Point, Entry, Exit, start_of, run_from, local_bytes, Enters, IsFault, IsFit, EndsAfter, BreaksOff, LiesApart, HasGrown, Comes}
 use Rattle.mir_lower.specs.Stops.{MakesCall, MakesSomeCall, ReachesCall, IsCut, StopsWithin, StopsFrom, without_arguments}
@@ -39,11 +40,12 @@ use Rattle.mir_lower.proofs.Covering.{Covers, covers-after, covers-on, covers-as
 use Rattle.mir_lower.proofs.Fitting.{callee-fits, unfit}
 use Rattle.mir_lower.proofs.Holding.{cells, interval-of}
 use Rattle.mir_lower.proofs.Lacking.{entering-defined, entering-nests, entering-room, lacks-room, rooms-counted}
-use Rattle.mir_lower.proofs.Leaving.{enters-block}
+use Rattle.mir_lower.proofs.Leaving.{ends-faulting, enters-block}
 use Rattle.mir_lower.proofs.Placing.{AreAligned}
 use Rattle.mir_lower.proofs.Reaching.{none-entered, comes-trans, grown-trans, stops-before}
 use Rattle.mir_lower.proofs.Stopping.{IsPart, cut-onward, defined-by, ends-as, lacks-onward}
 use Rattle.mir_lower.proofs.Taking.{called-cells-take, filling-takes-none, grown-more, rooms}
+use Rattle.mir_lower.proofs.Within.{call-out, call-within, more-within, none-out, read-within}
 
 -- runs that are the same under every budget
 enters-same : (turns : ℕ) (run other : ℕ → Ended) → ((budget : ℕ) → run budget ≡ other budget) → Enters turns other → Enters turns run
@@ -94,6 +96,40 @@ stops-now source program levels memory cost run ending makes cut ends =
         with_fewer = none-entered run;
       };
     }
+
+-- where a call leads, by the answer to the query for its callee's body
+module _ (frame : Frame) (from : Point) (memory : Memory) (call : Calling) (ty : Ty) (typed : mir_type frame.program.world frame.body call.func.kind ≡ Some ty) (id : FunctionId) (named : function_in ty ≡ Some id)
+    (at : (budget : ℕ) → run_from frame memory from budget ≡ going_on budget (calls frame memory call)) where
+  leads : (answer : Option Told) → answer_to frame.program.answers (body_query (without_arguments id)) ≡ answer → (budget : ℕ) → run_from frame memory from budget ≡ going_on budget (called_by frame memory call (without_arguments id) answer)
+  leads answer known budget =
+      at budget
+      ∙ ap (going_on budget) (leads-by frame memory call id ty typed (names-callee ty id named))
+      ∙ ap (λ (a : Option Told). going_on budget (called_by frame memory call (without_arguments id) a)) known
+
+  -- A call of which an argument is out of bounds is a panic, unless the run isn't told the answer: then it stops at the call.
+  module _ (source : Source) (whole : Shape) (lands : Landings) (to : Point) (makes : MakesCall source id) (args : some_out frame.program.world frame.body (number_held memory frame.cells) call.args ≡ true) where
+    abbrev Panicking : Type 0
+    Panicking = Reaches source whole lands frame from to memory (Nothing whole frame) (Faults out_of_bounds no_cost)
+
+    panics : (next : Next) → ((budget : ℕ) → run_from frame memory from budget ≡ going_on budget (led frame (calls_out frame.program.world frame.body (number_held memory frame.cells) call) next)) → Panicking
+    panics next by =
+        inr (ends-faulting frame memory from mir_out_of_bounds
+        (λ budget. by budget ∙ ap (λ (out : Bool). going_on budget (led frame out next)) (call-out frame memory call args)))
+
+    asks-out : (answer : Option Told) → answer_to frame.program.answers (body_query (without_arguments id)) ≡ answer → ((budget : ℕ) → going_on budget (called_by frame memory call (without_arguments id) answer) ≡ record { ending = Asked (body_query (without_arguments id)) frame memory call; left = budget }) → Panicking
+    asks-out answer known ends =
+        inl (stops-now source frame.program (levels_over frame.below) memory no_cost (run_from frame memory from) (Asked (body_query (without_arguments id)) frame memory call) (id, makes)
+        (record { id = id; call = record { caller = source; reached = at_once; makes = makes }; is = refl }) (λ budget. leads answer known budget ∙ ends budget))
+
+    pub call-panics : Panicking
+    unfolding called_by going_on
+    call-panics = by_answer (answer_to frame.program.answers (body_query (without_arguments id))) refl where
+      by_answer : (answer : Option Told) → answer_to frame.program.answers (body_query (without_arguments id)) ≡ answer → Panicking
+      by_answer None known = asks-out None known (λ budget. refl)
+      by_answer (Some (told.Konst konst)) known = asks-out (Some (told.Konst konst)) known (λ budget. refl)
+      by_answer (Some (told.Discriminant number)) known = asks-out (Some (told.Discriminant number)) known (λ budget. refl)
+      by_answer (Some (told.Body body)) known = panics (mir_called frame memory call id body.value) (leads (Some (told.Body body)) known)
+      by_answer (Some (told.Failed refusal)) known = panics (Stops (Faulted (callee_error id refusal) (entry_of frame call id ∷ trail_of frame))) (leads (Some (told.Failed refusal)) known)
 
 module _ (source : Source) (whole : Shape) (frame : Frame) (lands : Landings) (from : Point) (memory : Memory) (store : Store)
     (sound : IsSound source whole) (is : IsFrameOf whole frame) (holds : Holds whole frame store memory)
@@ -154,30 +190,42 @@ module _ (source : Source) (whole : Shape) (frame : Frame) (lands : Landings) (f
   own-call : ReachesCall source id
   own-call = record { caller = source; reached = at_once; makes = makes }
 
+  -- arguments that show values can be read
+  args-within : (args : List MirOperand) (given : List (List ℕ)) → ShowAll whole frame store args given → some_out frame.program.world frame.body (number_held memory frame.cells) args ≡ false
+  args-within [] [] shown = none-out frame memory
+  args-within [] (bytes ∷ given) shown = absurd shown
+  args-within (arg ∷ args) [] shown = absurd shown
+  args-within (arg ∷ args) (bytes ∷ given) shown = more-within frame memory arg args (read-within frame memory arg.kind bytes (shown.0 memory holds)) (args-within args given shown.1)
+
   -- the body that the run is told for the callee; without one the run stops
   told-body : (called : Source) → source_of source.world id ≡ Some called → StopsFor (entering_cost called) ⊎ ((body : MirBody) × DoesBelow (suc fuel) frame.program called body × ((budget : ℕ) → run_from frame memory from budget ≡ going_on budget (mir_called frame memory call id body)))
   unfolding called_by going_on
   told-body called has_body = by_answer (answer_to frame.program.answers (body_query (without_arguments id))) refl where
-    leads : (answer : Option Told) → answer_to frame.program.answers (body_query (without_arguments id)) ≡ answer → (budget : ℕ) → run_from frame memory from budget ≡ going_on budget (called_by frame memory call (without_arguments id) answer)
-    leads answer known budget =
-        at budget
-        ∙ ap (going_on budget) (leads-by frame memory call id ty typed (names-callee ty id named))
-        ∙ ap (λ (a : Option Told). going_on budget (called_by frame memory call (without_arguments id) a)) known
+    told-so : (answer : Option Told) → answer_to frame.program.answers (body_query (without_arguments id)) ≡ answer → (budget : ℕ) → run_from frame memory from budget ≡ going_on budget (called_by frame memory call (without_arguments id) answer)
+    told-so = leads frame from memory call ty typed id named at
+
+    within : (next : Next) (budget : ℕ) → going_on budget (led frame (calls_out frame.program.world frame.body (number_held memory frame.cells) call) next) ≡ going_on budget next
+    within next budget = ap (λ (out : Bool). going_on budget (led frame out next)) (call-within frame memory call is-whole (args-within call.args values fit))
 
     asks : (answer : Option Told) → answer_to frame.program.answers (body_query (without_arguments id)) ≡ answer → ((budget : ℕ) → going_on budget (called_by frame memory call (without_arguments id) answer) ≡ record { ending = Asked (body_query (without_arguments id)) frame memory call; left = budget }) → StopsFor (entering_cost called)
     asks answer known ends cost part =
-        stops-now source frame.program (levels_over frame.below) memory cost (run_from frame memory from) (Asked (body_query (without_arguments id)) frame memory call) (id, makes) (record { id = id; call = own-call; is = refl }) (λ budget. leads answer known budget ∙ ends budget)
+        stops-now source frame.program (levels_over frame.below) memory cost (run_from frame memory from) (Asked (body_query (without_arguments id)) frame memory call) (id, makes) (record { id = id; call = own-call; is = refl }) (λ budget. told-so answer known budget ∙ ends budget)
 
     by_answer : (answer : Option Told) → answer_to frame.program.answers (body_query (without_arguments id)) ≡ answer → StopsFor (entering_cost called) ⊎ ((body : MirBody) × DoesBelow (suc fuel) frame.program called body × ((budget : ℕ) → run_from frame memory from budget ≡ going_on budget (mir_called frame memory call id body)))
     by_answer None known = inl (asks None known (λ budget. refl))
     by_answer (Some (told.Konst konst)) known = inl (asks (Some (told.Konst konst)) known (λ budget. refl))
     by_answer (Some (told.Discriminant number)) known = inl (asks (Some (told.Discriminant number)) known (λ budget. refl))
-    by_answer (Some (told.Body body)) known = inr (body.value, serves.bodies id called body has_body known, leads (Some (told.Body body)) known)
+    by_answer (Some (told.Body body)) known =
+        inr (
+          body.value,
+          serves.bodies id called body has_body known,
+          λ budget. told-so (Some (told.Body body)) known budget ∙ within (mir_called frame memory call id body.value) budget,
+        )
     by_answer (Some (told.Failed refusal)) known =
         inl (λ cost part.
         stops-now source frame.program (levels_over frame.below) memory cost (run_from frame memory from) (Faulted (callee_error id refusal) (entry_of frame call id ∷ trail_of frame)) (id, makes)
         (inl (record { id = id; call = own-call; refusal = refusal; told = known; is = refl; counted = counts-entering called has_body cost part }))
-        (leads (Some (told.Failed refusal)) known))
+        (λ budget. told-so (Some (told.Failed refusal)) known budget ∙ within (Stops (Faulted (callee_error id refusal) (entry_of frame call id ∷ trail_of frame))) budget))
 
   -- the body is entered: its cells are placed, and the arguments are copied to them; or the run stops
   enters-body : (called : Source) → source_of source.world id ≡ Some called → (body : MirBody) → DoesBelow (suc fuel) frame.program called body → (destination : Option Interval) (result : List ℕ) → Shows called memory destination result →

@@ -8,20 +8,21 @@ use Rattle.mir.specs.declared.ids.BasicBlockId.{BasicBlockId}
 use Rattle.mir.specs.declared.operand.Operand.{Operand}
 use Rattle.mir.specs.declared.span.MirSpan.{MirSpan}
 use Rattle.mir.specs.declared.switch.SwitchTargets.{SwitchTargets}
-use Rattle.mir.specs.Memory.{Memory}
-use Rattle.mir.specs.Run.{Frame, GoesTo, terminated, switched, operand_bytes}
+use Rattle.mir.specs.Memory.{Memory, number_held}
+use Rattle.mir.specs.Run.{Frame, GoesTo, faults, led, out_of_bounds, terminated, switched, operand_bytes, operand_out}
 use Rattle.mir.specs.Switches.{first_target, target_of, pairs_of, otherwise_of}
 use Rattle.numbers.specs.Bytes.{value_of}
 use Rattle.source_meaning.specs.Source.{Source}
 use Rattle.mir_lower.specs.Branches.{IsReserved, IsForked, HasGoneOn}
 use Rattle.mir_lower.specs.Does.{here}
-use Rattle.mir_lower.specs.Graph.{Shape, with_terminator, with_reserved, with_entered}
+use Rattle.mir_graph.specs.Graph.{Shape, with_terminator, with_reserved, with_entered}
 use Rattle.mir_lower.specs.Growth.{Spares, IsSound, IsOpen}
-use Rattle.mir_lower.specs.Runs.{Point, Comes, start_of}
+use Rattle.mir_lower.specs.Runs.{Point, Comes, EndsAfter, IsFault, run_from, start_of}
 use Rattle.mir_lower.proofs.Branches.{reserved-spared}
 use Rattle.mir_lower.proofs.Growing.{grows-trans}
 use Rattle.mir_lower.proofs.Reserving.{Reserves, reserves, LeadsOn, leads-on}
 use Rattle.mir_lower.proofs.Sparing.{spares-trans, spares-entered}
+use Rattle.mir_lower.proofs.Within.{read-within}
 
 pub goto-leads : (frame : Frame) (memory : Memory) (to : BasicBlockId) (span : MirSpan) → terminated frame memory (Some (record { span = span; kind = Goto to })) ≡ GoesTo frame memory to.0
 unfolding terminated
@@ -54,7 +55,13 @@ switch-leads : (frame : Frame) (memory : Memory) (discr : Operand) (targets : Sw
 unfolding terminated switched
 switch-leads frame memory discr targets span bytes found short =
     let fits : nat_le (length bytes) 16 ≡ true = grind (arith, nat_tests) in
-    ap (switched frame memory targets) found ∙ chosen _ _ (nat_le (length bytes) 16) fits
+    ap (λ (out : Bool). led frame out (switched frame memory targets (operand_bytes frame memory discr.kind))) (read-within frame memory discr.kind bytes found)
+    ∙ ap (switched frame memory targets) found ∙ chosen _ _ (nat_le (length bytes) 16) fits
+
+-- on what is out of bounds it is a fault
+switch-out : (frame : Frame) (memory : Memory) (discr : Operand) (targets : SwitchTargets) (span : MirSpan) → operand_out frame.program.world frame.body (number_held memory frame.cells) discr.kind ≡ true → terminated frame memory (Some (record { span = span; kind = SwitchInt discr targets })) ≡ faults frame out_of_bounds
+unfolding terminated
+switch-out frame memory discr targets span out = ap (λ (o : Bool). led frame o (switched frame memory targets (operand_bytes frame memory discr.kind))) out
 
 unequal : (m n : ℕ) → m ≢ n → (m == n) ≡ false
 unequal m n differ = grind (arith, nat_tests)
@@ -114,4 +121,7 @@ forks source s0 s1 s2 s3 new discr targets span number taken other join sound op
       left = λ whole frame grows is memory bytes found short differ.
           let comes = leads.comes whole frame grows is memory other (switch-leads frame memory discr targets span bytes found short ∙ ap (GoesTo frame memory) (parts.differ (value_of bytes) differ)) in
           subst (λ (p : Point). Comes frame 1 0 p memory (start_of other) memory) begins comes;
+      out = λ whole frame grows is memory out.
+          subst (λ (p : Point). EndsAfter 0 (IsFault out_of_bounds) (run_from frame memory p)) begins
+          (leads.ends whole frame grows is memory out_of_bounds (switch-out frame memory discr targets span out));
     }

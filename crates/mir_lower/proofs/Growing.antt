@@ -1,21 +1,19 @@
 -- Each step of the builder grows the graph, and keeps it sound.
-use Rattle.std.proofs.Common.{◌≡◌, ◌≢◌, ℕ, ◌<◌, ⊎_elim, List, [], ◌∷◌, ◌++◌, length, Option, Some, None, refl, sym, ap, ◌∙◌, subst}
-use Rattle.source_meaning.specs.Source.{Cell}
-use Rattle.std.specs.Prelude.{slice_get, slice_set, option_map, option_and_then}
-use Rattle.std.proofs.Math.ListN.{length-set}
+use Rattle.std.proofs.Common.{◌≡◌, ℕ, ⊎_elim, List, [], ◌∷◌, ◌++◌, Option, Some, None, refl, sym, ap, ◌∙◌, subst}
+use Rattle.source_meaning.specs.Source.{Cell, Result, Node, Binding, Never, IndexOf}
+use Rattle.std.specs.Prelude.{slice_get, slice_set, option_and_then}
 use Rattle.std.proofs.lemmas.Bool.{cases_eq}
 use Rattle.std.proofs.lemmas.Option.{option_and_then_some}
-use Rattle.types.specs.declared.ty.Ty.{Ty}
 use Rattle.mir.specs.Projections.{projection_of}
 use Rattle.mir.specs.declared.body.BasicBlock.{BasicBlock}
 use Rattle.mir.specs.declared.body.Local.{Local}
 use Rattle.mir.specs.declared.body.Terminator.{Terminator}
 use Rattle.mir.specs.declared.ids.LocalId.{LocalId}
 use Rattle.mir.specs.declared.statement.Statement.{Statement}
-use Rattle.mir_lower.specs.Graph.{Shape, no_statements, more_of, ended, with_current, with_statement, with_terminator, with_block, temp_of, never_of, local_of_type, with_entry, with_value, with_never_value, with_temp, with_never, with_scope}
-use Rattle.mir_lower.specs.declared.graph.Temps.{Temps}
+use Rattle.mir_graph.specs.Graph.{Shape, no_statements, more_of, ended, with_current, with_statement, with_terminator, with_block, temp_at, temp_of, never_of, index_local, local_at, binding_local, local_of, with_scope}
+use Rattle.mir_graph.specs.declared.graph.Temps.{Temps}
 use Rattle.mir_lower.specs.Growth.{statement_at, terminator_at, Grows, IsOpen}
-use Rattle.mir_lower.proofs.Lists.{slice_get-front, slice_get-set_same, slice_get-set_other, slice_get_in, slice_get_below}
+use Rattle.mir_graph.proofs.Lists.{slice_get-front, slice_get-set_same, slice_get-set_other, slice_get_in, slice_get_below}
 
 -- the statements that a block had, the block has
 pub record BlockGrows (old new : BasicBlock) : Type 0 where
@@ -61,10 +59,10 @@ append_grows blocks more =
       ended = λ b block t there is. slice_get-front blocks more b block there;
     }
 
--- a graph grows where its blocks do, its locals stay, and its expressions keep their locals
-pub grows_by : (old new : Shape) → BlocksGrow old.blocks new.blocks → new.bindings ≡ old.bindings → new.projections ≡ old.projections → ((i : ℕ) (l : Local) → slice_get old.locals i ≡ Some l → slice_get new.locals i ≡ Some l) → ((e l : ℕ) → temp_of old e ≡ Some l → temp_of new e ≡ Some l) → ((e l : ℕ) → never_of old e ≡ Some l → never_of new e ≡ Some l) → Grows old new
+-- a graph grows where its blocks do, and its locals and cells keep what they have
+pub grows_by : (old new : Shape) → BlocksGrow old.blocks new.blocks → new.bindings ≡ old.bindings → new.projections ≡ old.projections → ((i : ℕ) (l : Local) → slice_get old.locals i ≡ Some l → slice_get new.locals i ≡ Some l) → ((c : Cell) (l : ℕ) → local_of old c ≡ Some l → local_of new c ≡ Some l) → Grows old new
 unfolding statement_at
-grows_by old new blocks bindings kept locals temps nevers =
+grows_by old new blocks bindings kept locals cells =
     record {
       statements = λ b i s there. option_and_then_some (λ block. slice_get block.statements i) (slice_get old.blocks b) s there (λ block found at.
           let later = blocks.each b block found in
@@ -72,13 +70,28 @@ grows_by old new blocks bindings kept locals temps nevers =
       ended = λ b block t there is. blocks.ended b block t there is;
       locals = locals;
       bindings = bindings;
-      temps = temps;
-      nevers = nevers;
+      temps = λ e l h. cells (Node e) l h;
+      nevers = λ e l h. cells (Never e) l h;
+      indices = λ e l h. cells (IndexOf e) l h;
       projections = λ id elements h. subst (λ ps. projection_of ps id ≡ Some elements) (sym kept) h;
     }
 
+-- a cell's local, where the tables stay
+pub same-local : (old new : Shape) → new.bindings ≡ old.bindings → new.temps ≡ old.temps → (c : Cell) → local_of new c ≡ local_of old c
+unfolding temp_of never_of index_local binding_local
+same-local old new bindings temps Result = refl
+same-local old new bindings temps (Node e) = ap (λ (t : List Temps). temp_at (λ held. held.value) t e) temps
+same-local old new bindings temps (Never e) = ap (λ (t : List Temps). temp_at (λ held. held.never) t e) temps
+same-local old new bindings temps (IndexOf e) = ap (λ (t : List Temps). temp_at (λ held. held.index) t e) temps
+same-local old new bindings temps (Binding b) = ap (λ (t : List (Option LocalId)). local_at t b) bindings
+
+-- so does a graph where nothing but its blocks is another
+pub grows_blocks : (old new : Shape) → BlocksGrow old.blocks new.blocks → new.bindings ≡ old.bindings → new.projections ≡ old.projections → new.locals ≡ old.locals → new.temps ≡ old.temps → Grows old new
+grows_blocks old new blocks bindings kept locals temps =
+    grows_by old new blocks bindings kept (λ i l h. ap (λ (ls : List Local). slice_get ls i) locals ∙ h) (λ c l h. same-local old new bindings temps c ∙ h)
+
 pub grows-refl : (s : Shape) → Grows s s
-grows-refl s = record { statements = λ b i x h. h; ended = λ b block t h is. h; locals = λ i l h. h; bindings = refl; temps = λ e l h. h; nevers = λ e l h. h; projections = λ id elements h. h }
+grows-refl s = record { statements = λ b i x h. h; ended = λ b block t h is. h; locals = λ i l h. h; bindings = refl; temps = λ e l h. h; nevers = λ e l h. h; indices = λ e l h. h; projections = λ id elements h. h }
 
 pub grows-trans : (a b c : Shape) → Grows a b → Grows b c → Grows a c
 grows-trans a b c first second =
@@ -89,6 +102,7 @@ grows-trans a b c first second =
       bindings = second.bindings ∙ first.bindings;
       temps = λ e l h. second.temps e l (first.temps e l h);
       nevers = λ e l h. second.nevers e l (first.nevers e l h);
+      indices = λ e l h. second.indices e l (first.indices e l h);
       projections = λ id elements h. second.projections id elements (first.projections id elements h);
     }
 
@@ -109,105 +123,22 @@ unfolding with_terminator
 with_terminator-is t s block found = ap (with_current (ended t) s) found
 
 pub with_statement-grows : (statement : Statement) (s : Shape) → IsOpen s → Grows s (with_statement statement s)
-unfolding temp_of never_of
 with_statement-grows statement s opened =
     let block = current_of s opened in
     subst (λ (n : Shape). Grows s n) (sym (with_statement-is statement s block.0 block.1))
-    (grows_by s (record s { blocks = slice_set s.blocks s.current (more_of statement block.0) })
-    (set_grows s.blocks s.current block.0 (more_of statement block.0) block.1 block.2 (more_grows statement block.0)) refl refl (λ i l h. h) (λ e l h. h) (λ e l h. h))
+    (grows_blocks s (record s { blocks = slice_set s.blocks s.current (more_of statement block.0) })
+    (set_grows s.blocks s.current block.0 (more_of statement block.0) block.1 block.2 (more_grows statement block.0)) refl refl refl refl)
 
 pub with_terminator-grows : (t : Terminator) (s : Shape) → IsOpen s → Grows s (with_terminator t s)
-unfolding temp_of never_of
 with_terminator-grows t s opened =
     let block = current_of s opened in
     subst (λ (n : Shape). Grows s n) (sym (with_terminator-is t s block.0 block.1))
-    (grows_by s (record s { blocks = slice_set s.blocks s.current (ended t block.0) })
-    (set_grows s.blocks s.current block.0 (ended t block.0) block.1 block.2 (ended_grows t block.0)) refl refl (λ i l h. h) (λ e l h. h) (λ e l h. h))
+    (grows_blocks s (record s { blocks = slice_set s.blocks s.current (ended t block.0) })
+    (set_grows s.blocks s.current block.0 (ended t block.0) block.1 block.2 (ended_grows t block.0)) refl refl refl refl)
 
 pub with_block-grows : (s : Shape) → Grows s (with_block s)
-unfolding with_block temp_of never_of
-with_block-grows s = grows_by s (with_block s) (append_grows s.blocks (no_statements ∷ [])) refl refl (λ i l h. h) (λ e l h. h) (λ e l h. h)
+unfolding with_block
+with_block-grows s = grows_blocks s (with_block s) (append_grows s.blocks (no_statements ∷ [])) refl refl refl refl
 
 pub with_scope-grows : (scope : List Cell) (s : Shape) → Grows s (with_scope scope s)
-unfolding statement_at temp_of never_of
-with_scope-grows scope s = record { statements = λ b i x h. h; ended = λ b block t h is. h; locals = λ i l h. h; bindings = refl; temps = λ e l h. h; nevers = λ e l h. h; projections = λ id elements h. h }
-
--- A table in which one entry is changed.
-module _ (change : Temps → Temps) (table : List Temps) (e : ℕ) where
-  abbrev Changed : List Temps
-  Changed = with_entry change table e (slice_get table e)
-
-  -- the changed entry
-  entry-same : e < length table → (temps : Temps) × (slice_get table e ≡ Some temps) × (slice_get Changed e ≡ Some (change temps))
-  entry-same within =
-      let found = slice_get_in table e within in
-      (found.0, found.1, ap (λ entry. slice_get (with_entry change table e entry) e) found.1 ∙ slice_get-set_same table e (change found.0) within)
-
-  -- the others stay
-  entry-other : (f : ℕ) → f ≢ e → slice_get Changed f ≡ slice_get table f
-  entry-other f differ = by-entry (slice_get table e) where
-    by-entry : (entry : Option Temps) → slice_get (with_entry change table e entry) f ≡ slice_get table f
-    by-entry (Some temps) = slice_get-set_other table e f (change temps) (λ same. differ (sym same))
-    by-entry None = refl
-
-  pub entry-length : length Changed ≡ length table
-  entry-length = by-entry (slice_get table e) where
-    by-entry : (entry : Option Temps) → length (with_entry change table e entry) ≡ length table
-    by-entry (Some temps) = length-set table e (change temps)
-    by-entry None = refl
-
-  -- so does, of the changed one, what isn't changed
-  entry-kept : (which : Temps → Option LocalId) → ((temps : Temps) → which (change temps) ≡ which temps) → (f : ℕ) → option_and_then which (slice_get Changed f) ≡ option_and_then which (slice_get table f)
-  entry-kept which same f = ⊎_elim (λ here. at-entry here (slice_get table e) refl) (λ differ. ap (option_and_then which) (entry-other f differ)) (cases_eq f e) where
-    at-entry : f ≡ e → (entry : Option Temps) → slice_get table e ≡ entry → option_and_then which (slice_get (with_entry change table e (slice_get table e)) f) ≡ option_and_then which (slice_get table f)
-    at-entry here (Some temps) is =
-        ap (λ entry. option_and_then which (slice_get (with_entry change table e entry) f)) is
-        ∙ ap (λ i. option_and_then which (slice_get (slice_set table e (change temps)) i)) here
-        ∙ ap (option_and_then which) (slice_get-set_same table e (change temps) (slice_get_below table e temps is))
-        ∙ same temps
-        ∙ sym (ap (option_and_then which) (ap (slice_get table) here ∙ is))
-    at-entry here None is = ap (λ entry. option_and_then which (slice_get (with_entry change table e entry) f)) is
-
--- the locals of expressions after one was given a new one
-pub temp_of-with_temp_same : (e : ℕ) (ty : Ty) (s : Shape) → e < length s.temps → temp_of (with_temp e ty s) e ≡ Some (length s.locals)
-unfolding temp_of with_temp
-temp_of-with_temp_same e ty s within =
-    let entry = entry-same (with_value (length s.locals)) s.temps e within in
-    ap (λ t. option_map (λ (l : LocalId). l.0) (option_and_then (λ temps. temps.value) t)) entry.2
-
-pub temp_of-with_temp_other : (e f : ℕ) (ty : Ty) (s : Shape) → f ≢ e → temp_of (with_temp e ty s) f ≡ temp_of s f
-unfolding temp_of with_temp
-temp_of-with_temp_other e f ty s differ = ap (λ t. option_map (λ (l : LocalId). l.0) (option_and_then (λ temps. temps.value) t)) (entry-other (with_value (length s.locals)) s.temps e f differ)
-
-pub never_of-with_temp : (e f : ℕ) (ty : Ty) (s : Shape) → never_of (with_temp e ty s) f ≡ never_of s f
-unfolding never_of with_temp
-never_of-with_temp e f ty s = ap (option_map (λ (l : LocalId). l.0)) (entry-kept (with_value (length s.locals)) s.temps e (λ temps. temps.never) (λ temps. refl) f)
-
-pub with_temp-grows : (e : ℕ) (ty : Ty) (s : Shape) → temp_of s e ≡ None → Grows s (with_temp e ty s)
-unfolding with_temp
-with_temp-grows e ty s none =
-    grows_by s (with_temp e ty s) (same_blocks s.blocks) refl refl (λ i l h. slice_get-front s.locals (local_of_type ty ∷ []) i l h)
-    (λ f l h. temp_of-with_temp_other e f ty s (λ same. let h' : temp_of s e ≡ Some l = ap (temp_of s) (sym same) ∙ h in cc) ∙ h)
-    (λ f l h. never_of-with_temp e f ty s ∙ h)
-
--- the same, after one was given a new one for its `!`
-pub never_of-with_never_same : (e : ℕ) (ty : Ty) (s : Shape) → e < length s.temps → never_of (with_never e ty s) e ≡ Some (length s.locals)
-unfolding never_of with_never
-never_of-with_never_same e ty s within =
-    let entry = entry-same (with_never_value (length s.locals)) s.temps e within in
-    ap (λ t. option_map (λ (l : LocalId). l.0) (option_and_then (λ temps. temps.never) t)) entry.2
-
-pub never_of-with_never_other : (e f : ℕ) (ty : Ty) (s : Shape) → f ≢ e → never_of (with_never e ty s) f ≡ never_of s f
-unfolding never_of with_never
-never_of-with_never_other e f ty s differ = ap (λ t. option_map (λ (l : LocalId). l.0) (option_and_then (λ temps. temps.never) t)) (entry-other (with_never_value (length s.locals)) s.temps e f differ)
-
-pub temp_of-with_never : (e f : ℕ) (ty : Ty) (s : Shape) → temp_of (with_never e ty s) f ≡ temp_of s f
-unfolding temp_of with_never
-temp_of-with_never e f ty s = ap (option_map (λ (l : LocalId). l.0)) (entry-kept (with_never_value (length s.locals)) s.temps e (λ temps. temps.value) (λ temps. refl) f)
-
-pub with_never-grows : (e : ℕ) (ty : Ty) (s : Shape) → never_of s e ≡ None → Grows s (with_never e ty s)
-unfolding with_never
-with_never-grows e ty s none =
-    grows_by s (with_never e ty s) (same_blocks s.blocks) refl refl (λ i l h. slice_get-front s.locals (local_of_type ty ∷ []) i l h)
-    (λ f l h. temp_of-with_never e f ty s ∙ h)
-    (λ f l h. never_of-with_never_other e f ty s (λ same. let h' : never_of s e ≡ Some l = ap (never_of s) (sym same) ∙ h in cc) ∙ h)
+with_scope-grows scope s = grows_blocks s (with_scope scope s) (same_blocks s.blocks) refl refl refl refl

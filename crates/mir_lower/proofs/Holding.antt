@@ -1,24 +1,25 @@
 -- Assigning to the local of a cell: afterwards memory and store agree again.
-use Rattle.std.proofs.Common.{◌≡◌, ◌≢◌, ℕ, ◌⊎◌, ⊎_elim, inl, inr, true, false, cond, List, length, Option, Some, None, Ok, Err, refl, sym, ap, ◌∙◌, arith, eqb}
+use Rattle.std.proofs.Common.{◌≡◌, ◌≢◌, ℕ, ◌⊎◌, ⊎_elim, inl, inr, Bool, true, false, cond, List, length, Option, Some, None, Ok, Err, refl, sym, ap, ◌∙◌, arith}
 use Rattle.std.specs.Prelude.{slice_get, option_and_then}
-use Rattle.std.proofs.lemmas.Bool.{cases_eq}
 use Rattle.std.proofs.lemmas.Bool.Decides.{nat_tests}
 use Rattle.std.proofs.lemmas.Option.{option_and_then_some}
 use Rattle.mir.specs.declared.ids.LocalId.{LocalId}
-use Rattle.mir.specs.Places.{place_cell}
 use Rattle.mir.specs.declared.operand.Rvalue.{Rvalue}
 use Rattle.mir.specs.declared.statement.StatementKind.TheVariants.{Assign}
 use Rattle.mir.specs.declared.address.Interval.{Interval}
 use Rattle.mir.specs.Areas.{with_bytes}
-use Rattle.mir.specs.Memory.{Memory, cell_bytes}
+use Rattle.mir.specs.Memory.{Memory, cell_bytes, number_held}
 use Rattle.mir.specs.Run.{Frame, after_statement, copied, rvalue_bytes, bad_write}
-use Rattle.source_meaning.specs.Source.{Source, Cell, Result as Slot, Node, Binding, Never, Store, same_cell, with_cell_bytes}
+use Rattle.source_meaning.specs.Source.{Source, Cell, Result as Slot, Node, Binding, IndexOf, Never, Store, same_cell, with_cell_bytes}
+use Rattle.source_meaning.proofs.Stores.{same_cell_from_test}
 use Rattle.mir_lower.specs.Does.{IsFrameOf, Holds}
 use Rattle.mir.specs.WholePlaces.{whole_place}
-use Rattle.mir_lower.specs.Graph.{Shape, local_of}
+use Rattle.mir.proofs.WholePlaces.{whole-cell}
+use Rattle.mir_graph.specs.Graph.{Shape, local_of}
 use Rattle.mir_lower.specs.Growth.{IsSound}
 use Rattle.mir_lower.specs.Runs.{local_bytes, KeepsOthers}
 use Rattle.mir_lower.proofs.Stack.{length-cell_bytes, can_write, read-written, read-apart}
+use Rattle.mir_lower.proofs.Within.{assigns-bytes}
 
 -- one cell or two, and where it is one, `same_cell` says so
 same_cell-refl : (c : Cell) → same_cell c c ≡ true
@@ -26,33 +27,13 @@ same_cell-refl Slot = refl
 same_cell-refl (Node e) = grind (arith, nat_tests)
 same_cell-refl (Binding b) = grind (arith, nat_tests)
 same_cell-refl (Never e) = grind (arith, nat_tests)
-
-unequal : (m n : ℕ) → m ≢ n → eqb m n ≡ false
-unequal m n differ = grind (arith, nat_tests)
+same_cell-refl (IndexOf e) = grind (arith, nat_tests)
 
 pub cells : (c d : Cell) → ((c ≡ d) × (same_cell c d ≡ true)) ⊎ ((c ≢ d) × (same_cell c d ≡ false))
-cells Slot Slot = inl (refl, refl)
-cells Slot (Node e) = inr ((λ same. cc), refl)
-cells Slot (Binding b) = inr ((λ same. cc), refl)
-cells Slot (Never e) = inr ((λ same. cc), refl)
-cells (Node e) Slot = inr ((λ same. cc), refl)
-cells (Node e) (Binding b) = inr ((λ same. cc), refl)
-cells (Node e) (Never f) = inr ((λ same. cc), refl)
-cells (Binding b) Slot = inr ((λ same. cc), refl)
-cells (Binding b) (Node e) = inr ((λ same. cc), refl)
-cells (Binding b) (Never e) = inr ((λ same. cc), refl)
-cells (Never e) Slot = inr ((λ same. cc), refl)
-cells (Never e) (Node f) = inr ((λ same. cc), refl)
-cells (Never e) (Binding b) = inr ((λ same. cc), refl)
-cells (Node e) (Node f) =
-    ⊎_elim (λ same. inl (ap Node same, ap (λ g. same_cell (Node e) (Node g)) (sym same) ∙ same_cell-refl (Node e)))
-    (λ differ. inr ((λ same. differ (let parts : e ≡ f = cc in parts)), unequal e f differ)) (cases_eq e f)
-cells (Never e) (Never f) =
-    ⊎_elim (λ same. inl (ap Never same, ap (λ g. same_cell (Never e) (Never g)) (sym same) ∙ same_cell-refl (Never e)))
-    (λ differ. inr ((λ same. differ (let parts : e ≡ f = cc in parts)), unequal e f differ)) (cases_eq e f)
-cells (Binding b) (Binding c) =
-    ⊎_elim (λ same. inl (ap Binding same, ap (λ d. same_cell (Binding b) (Binding d)) (sym same) ∙ same_cell-refl (Binding b)))
-    (λ differ. inr ((λ same. differ (let parts : b ≡ c = cc in parts)), unequal b c differ)) (cases_eq b c)
+cells c d = by-test (same_cell c d) refl where
+  by-test : (test : Bool) → same_cell c d ≡ test → ((c ≡ d) × (same_cell c d ≡ true)) ⊎ ((c ≢ d) × (same_cell c d ≡ false))
+  by-test true is = inl (same_cell_from_test c d is, is)
+  by-test false is = inr ((λ same. let one : same_cell c d ≡ true = ap (same_cell c) (sym same) ∙ same_cell-refl c in cc), is)
 
 -- the interval of a local whose bytes are known
 pub interval-of : (frame : Frame) (memory : Memory) (l : ℕ) (bytes : List ℕ) → local_bytes frame memory l ≡ Some bytes → (cell : Interval) × (slice_get frame.cells l ≡ Some cell) × (cell_bytes memory cell ≡ Some bytes)
@@ -73,14 +54,13 @@ others-stay s frame is memory later l k cell bytes old differ found written size
 -- as many bytes as a cell holds can be assigned to its local; memory then holds the store with them, and else is as it was
 pub assigns : (source : Source) (s : Shape) (frame : Frame) → IsSound source s → IsFrameOf s frame → (store : Store) (memory : Memory) → Holds s frame store memory → (c : Cell) (to : LocalId) (rvalue : Rvalue) (bytes : List ℕ) → local_of s c ≡ Some to.0 → rvalue_bytes frame memory rvalue ≡ Ok bytes → length bytes ≡ length (store c) →
     (later : Memory) × (after_statement frame memory (Assign (whole_place to) rvalue) ≡ Ok later) × Holds s frame (with_cell_bytes store c bytes) later × KeepsOthers frame memory later
-unfolding after_statement copied place_cell
+unfolding copied
 assigns source s frame sound is store memory holds c to rvalue bytes local computed long =
     let at = interval-of frame memory to.0 (store c) (holds.shows c to.0 local) in
     let can = can_write memory at.0 (store c) bytes at.2 long in
     let size : length bytes ≡ at.0.size = long ∙ length-cell_bytes memory at.0 (store c) at.2 in (
       can.0,
-      ap (λ o. copied memory o (rvalue_bytes frame memory rvalue)) at.1
-          ∙ ap (λ r. copied memory (Some at.0) r) computed
+      assigns-bytes frame memory (whole_place to) rvalue at.0 bytes (whole-cell frame.program.world frame.body (number_held memory frame.cells) frame.cells (whole_place to) refl ∙ at.1) computed
           ∙ ap (λ (o : Option Memory). elim o [ Some after ↦ Ok after | None ↦ Err bad_write ]) can.1,
       record {
         shows = λ d k h. ⊎_elim

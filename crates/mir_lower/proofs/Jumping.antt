@@ -17,7 +17,7 @@ use Rattle.source_meaning.specs.Valid.{itself_in, own, inside, sized_part, sized
 use Rattle.source_meaning.proofs.Marks.{break_marks, continue_marks, no_tail_marks}
 use Rattle.source_meaning.proofs.Parts.{sized_part_is_part}
 use Rattle.mir_lower.specs.Does.{here, IsFrameOf, Holds, AtPoint, Landings, Lands, Reaches, Nothing, Fronts, FrontAll, Stands}
-use Rattle.mir_lower.specs.Graph.{Shape, OpenTarget, local_of, meant_target}
+use Rattle.mir_graph.specs.Graph.{Shape, OpenTarget, local_of, meant_target}
 use Rattle.mir_lower.specs.Growth.{Grows, IsInside, IsSound, IsReady}
 use Rattle.mir_lower.specs.Jumps.{HasJumped}
 use Rattle.mir_lower.specs.Lowered.{IsPlainWithin, LaysOut, LowersOwn, LowersTail, HasLayouts}

@@ -1,27 +1,21 @@
 -- Entering and leaving loops and labelled blocks, and jumping to them: what the graph keeps, and which points its runs reach.
-use Rattle.std.proofs.Common.{◌≡◌, ℕ, suc, List, [], ◌∷◌, ◌++◌, map, length, take, Option, Some, refl, sym, ap, ◌∙◌, subst, arith}
-use Rattle.std.specs.Prelude.{reverse, slice_get, if◌then◌else◌}
-use Rattle.std.proofs.lemmas.List.{map-append, reverse-append}
-use Rattle.types.specs.declared.ids.LabelId.{LabelId}
+use Rattle.std.proofs.Common.{◌≡◌, ℕ, suc, List, ◌∷◌, length, refl, sym, ap, ◌∙◌, subst, arith}
 use Rattle.mir.specs.declared.body.Terminator.{Terminator}
 use Rattle.mir.specs.declared.body.TerminatorKind.TheVariants.{Goto}
 use Rattle.mir.specs.declared.ids.BasicBlockId.{BasicBlockId}
 use Rattle.mir.specs.declared.span.MirSpan.{MirSpan}
-use Rattle.source_meaning.specs.Around.{is_meant}
 use Rattle.source_meaning.specs.Source.{Source}
-use Rattle.mir_lower.specs.declared.graph.LoopBlocks.{LoopBlocks}
 use Rattle.mir_lower.specs.Branches.{IsReserved, HasGoneOn}
 use Rattle.mir_lower.specs.Does.{here}
-use Rattle.mir_lower.specs.Graph.{Shape, OpenTarget, target_of_blocks, targets_of, meant_target, with_targets, with_reserved, with_terminator, with_block, temp_of, never_of}
-use Rattle.mir_lower.specs.Growth.{statement_at, terminator_at, count_at, Grows, Spares, IsSound, IsOpen}
+use Rattle.mir_graph.specs.Graph.{Shape, OpenTarget, with_targets, with_reserved, with_terminator, with_block}
+use Rattle.mir_lower.specs.Growth.{terminator_at, count_at, Grows, Spares, IsSound, IsOpen}
 use Rattle.mir_lower.specs.Jumps.{IsEntered, HasJumped}
 use Rattle.mir_lower.specs.Leaving.{Idles}
 use Rattle.mir_lower.specs.Runs.{Point, Entry, Comes}
 use Rattle.mir_lower.proofs.Branches.{reserved-spared, reserved-gone}
 use Rattle.mir_lower.proofs.Forking.{goto-leads}
-use Rattle.mir_lower.proofs.Growing.{grows-trans, with_terminator-grows, with_block-grows}
+use Rattle.mir_lower.proofs.Growing.{same_blocks, grows_blocks, grows-trans, with_terminator-grows, with_block-grows}
 use Rattle.mir_lower.proofs.Leaving.{heads-ended}
-use Rattle.mir_lower.proofs.Lists.{take-next}
 use Rattle.mir_lower.proofs.Reaching.{comes-on}
 use Rattle.mir_lower.proofs.Reserving.{Reserves, reserves}
 use Rattle.mir_lower.proofs.Sound.{sound_by, with_terminator-sound, with_terminator-scope, with_block-sound, with_block-open, with_block-scope}
@@ -29,8 +23,7 @@ use Rattle.mir_lower.proofs.Sparing.{spares-trans, spares-entered, with_terminat
 
 -- which loops and labelled blocks stand around the code counts for nothing else
 pub with_targets-grows : (targets : List OpenTarget) (s : Shape) → Grows s (with_targets targets s)
-unfolding statement_at temp_of never_of
-with_targets-grows targets s = record { statements = λ b i x h. h; ended = λ b block t h is. h; locals = λ i l h. h; bindings = refl; temps = λ e l h. h; nevers = λ e l h. h; projections = λ id elements h. h }
+with_targets-grows targets s = grows_blocks s (with_targets targets s) (same_blocks s.blocks) refl refl refl refl
 
 pub with_targets-sound : (source : Source) (targets : List OpenTarget) (s : Shape) → IsSound source s → IsSound source (with_targets targets s)
 with_targets-sound source targets s sound = sound_by source s (with_targets targets s) refl refl refl sound
@@ -104,12 +97,3 @@ jumps source s0 s1 s2 new to span turns idles same2 same3 =
           comes-on frame turns (here s0) (here s1) (Entry to.0) memory memory memory (idles.comes whole frame (grows-trans s1 done whole (with_terminator-grows t s1 opened) grown) is memory)
           (heads-ended t s1 whole frame opened grown is memory to.0 (goto-leads frame memory to span));
     })
-
--- the last loop or labelled block that was entered is the innermost one
-pub targets-last : (loops : List LoopBlocks) (blocks : LoopBlocks) → targets_of (loops ++ blocks ∷ []) ≡ target_of_blocks blocks ∷ targets_of loops
-targets-last loops blocks = ap reverse (map-append target_of_blocks loops (blocks ∷ [])) ∙ reverse-append (map target_of_blocks loops) (target_of_blocks blocks ∷ [])
-
--- one of them is the one that a jump means, or one further out
-pub meant-next : (label : Option LabelId) (loops : List LoopBlocks) (k : ℕ) (blocks : LoopBlocks) → slice_get loops k ≡ Some blocks → meant_target label (targets_of (take (suc k) loops)) ≡ (if is_meant label (target_of_blocks blocks).opened then Some (target_of_blocks blocks) else meant_target label (targets_of (take k loops)))
-unfolding meant_target
-meant-next label loops k blocks found = ap (λ (l : List LoopBlocks). meant_target label (targets_of l)) (take-next loops k blocks found) ∙ ap (meant_target label) (targets-last (take k loops) blocks)

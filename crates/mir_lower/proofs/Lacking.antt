@@ -12,12 +12,13 @@ use Rattle.mir.specs.declared.errors.MirEvalError.{MirEvalError}
 use Rattle.mir.specs.Memory.{Memory}
 use Rattle.mir.specs.Run.{Program, called_cells}
 use Rattle.source_meaning.specs.Entering.{body_room, entering as entering_cost, is_cost_defined, room_of}
-use Rattle.source_meaning.specs.Source.{Source, Cell, Result as Slot, Node, Binding, Never, cell_type, diverges, own_type}
+use Rattle.source_meaning.specs.Source.{Source, Cell, Result as Slot, Node, Binding, IndexOf, Never, cell_type, diverges, own_type}
 use Rattle.source_meaning.specs.Valid.{itself, HasDefinedCost, HasSizedLayout, at_once}
 use Rattle.source_meaning.proofs.Defined.{cost_is_defined}
 use Rattle.mir_lower.specs.Callees.{AreCounted}
 use Rattle.mir_lower.specs.Growth.{IsUsed}
 use Rattle.mir_lower.specs.Stops.{IsCellType, LacksRoom}
+use Rattle.mir_lower.proofs.Given.{index-cell}
 use Rattle.mir_lower.proofs.Taking.{HasNoCell, called-cells-lack, rooms}
 
 -- all cells of a body together take as many bytes as entering it costs
@@ -51,6 +52,7 @@ pub sized-cell : (source : Source) → HasDefinedCost source → (ty : Ty) (cell
 sized-cell source cost ty Slot used is = subst (HasSizedLayout source) is (let sized = cost.nodes source.body.body_expr.0 itself in sized.of_value)
 sized-cell source cost ty (Node e) used is = subst (HasSizedLayout source) is (let sized = cost.nodes e used in sized.of_value)
 sized-cell source cost ty (Never e) used is = subst (HasSizedLayout source) (never-typed (diverges source e) (own_type source e) ty is) (let sized = cost.nodes e used in sized.of_itself)
+sized-cell source cost ty (IndexOf e) used is = subst (HasSizedLayout source) (sym (index-cell source e used.0 used.1) ∙ is) (let sized = cost.nodes used.0 used.1.evaluated in sized.of_value)
 sized-cell source cost ty (Binding b) used is = cost.bindings b ty is
 
 -- so where one has none, the cost isn't

@@ -11,7 +11,7 @@ use Rattle.source_meaning.specs.Meaning.{literal_bytes}
 use Rattle.source_meaning.specs.Source.{Source, node, unadjusted, own_type, own_layout, Node}
 use Rattle.source_meaning.specs.Steps.{parts_of}
 use Rattle.source_meaning.specs.Valid.{opened_in, part_in, itself, part, HasPlainForm, IsPlainNode, IsPlainPath, IsLaidOut, NeedsLayout, own, inside, sized_parts, IsLaidOutNode}
-use Rattle.mir_lower.specs.Graph.{Shape, local_of_type, temp_of}
+use Rattle.mir_graph.specs.Graph.{Shape, local_of_type, temp_of}
 use Rattle.mir_lower.specs.Growth.{Grows, IsSound}
 use Rattle.body_forms.specs.Literals.{IsLiteral}
 use Rattle.mir_lower.specs.Lowered.{IsPlainWithin, HasLayouts, LaysOut, IsNamed, LowersInto}

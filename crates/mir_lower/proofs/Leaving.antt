@@ -5,6 +5,7 @@ use Rattle.std.proofs.Math.ListN.{length-set}
 use Rattle.mir.specs.declared.body.BasicBlock.{BasicBlock}
 use Rattle.mir.specs.declared.body.Terminator.{Terminator}
 use Rattle.mir.specs.declared.body.TerminatorKind.TheVariants.{Return, Drop}
+use Rattle.mir.specs.declared.errors.MirEvalError.{MirEvalError}
 use Rattle.mir.specs.declared.ids.BasicBlockId.{BasicBlockId}
 use Rattle.mir.specs.declared.ids.LocalId.{LocalId}
 use Rattle.mir.specs.declared.operand.Place.{Place}
@@ -12,15 +13,15 @@ use Rattle.mir.specs.declared.span.MirSpan.{MirSpan}
 use Rattle.mir.specs.declared.statement.Statement.{Statement}
 use Rattle.mir.specs.declared.statement.StatementKind.TheVariants.{StorageDead}
 use Rattle.mir.specs.Memory.{Memory}
-use Rattle.mir.specs.Run.{Frame, Next, Stops, GoesTo, Asks, Asked, trail_of, faults, after_statement, after_statements, terminated, next_from, going_on, running, entering, out_of_blocks}
+use Rattle.mir.specs.Run.{Frame, Next, Stops, GoesTo, Asks, Asked, Faulted, trail_of, faults, after_statement, after_statements, terminated, next_from, going_on, running, entering, out_of_blocks}
 use Rattle.source_meaning.specs.Source.{Source, Cell}
 use Rattle.mir_lower.specs.Does.{here, IsFrameOf}
-use Rattle.mir_lower.specs.Graph.{Shape, no_statements, ended, with_statement, with_terminator, with_block, with_scope}
+use Rattle.mir_graph.specs.Graph.{Shape, no_statements, ended, with_statement, with_terminator, with_block, with_scope}
 use Rattle.mir_lower.specs.Growth.{count_at, Grows, IsSound, IsOpen}
 use Rattle.mir_lower.specs.Leaving.{Idles}
-use Rattle.mir_lower.specs.Runs.{Point, Within, Entry, Exit, start_of, run_from, Comes}
+use Rattle.mir_lower.specs.Runs.{Point, Within, Entry, Exit, start_of, run_from, Comes, EndsAfter, IsFault}
 use Rattle.mir_lower.proofs.Growing.{current_of, grows-refl, grows-trans, with_statement-grows, with_terminator-is, with_terminator-grows, with_block-grows, with_scope-grows}
-use Rattle.mir_lower.proofs.Lists.{slice_get-last, slice_get-set_same}
+use Rattle.mir_graph.proofs.Lists.{slice_get-last, slice_get-set_same}
 use Rattle.mir_lower.proofs.Reaching.{none-entered, keeps-refl, comes-refl, comes-trans, comes-from, not-grown}
 use Rattle.mir_lower.proofs.Running.{here-is, comes-statement}
 use Rattle.mir_lower.proofs.Sound.{with_statement-sound, with_statement-open, with_statement-scope, with_terminator-sound, with_terminator-scope, with_block-sound, with_block-open, with_block-scope, with_scope-sound, with_scope-open}
@@ -85,7 +86,21 @@ heads-ended t s whole frame opened grows is memory target goes =
       grown = not-grown memory 0;
     }
 
--- and enters it
+-- a run that ends in a fault at once
+pub ends-faulting : (frame : Frame) (memory : Memory) (from : Point) (e : MirEvalError) → ((budget : ℕ) → run_from frame memory from budget ≡ going_on budget (faults frame e)) → EndsAfter 0 (IsFault e) (run_from frame memory from)
+unfolding going_on
+ends-faulting frame memory from e stops =
+    record {
+      with_more = λ more. let plain : 0 + more ≡ more = omega arith in (Faulted e (trail_of frame), (trail_of frame, refl), ap (run_from frame memory from) plain ∙ stops more);
+      with_fewer = none-entered (run_from frame memory from);
+    }
+
+-- where the terminator is a fault, the run ends in it
+pub ends-ended : (t : Terminator) (s whole : Shape) (frame : Frame) → IsOpen s → Grows (with_terminator t s) whole → IsFrameOf whole frame → (memory : Memory) (e : MirEvalError) → terminated frame memory (Some t) ≡ faults frame e → EndsAfter 0 (IsFault e) (run_from frame memory (here s))
+ends-ended t s whole frame opened grows is memory e stops =
+    ends-faulting frame memory (here s) e (λ budget. run-terminator t s whole frame opened grows is memory budget ∙ ap (going_on budget) stops)
+
+-- a block that the run is about to enter is entered
 pub enters-block : (frame : Frame) (memory : Memory) (block : ℕ) → Comes frame 1 0 (Entry block) memory (start_of block) memory
 enters-block frame memory block =
     record {

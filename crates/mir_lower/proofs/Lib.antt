@@ -17,6 +17,7 @@ pub mod Entering
 pub mod Fields
 pub mod Fitting
 pub mod Forking
+pub mod Given
 pub mod Growing
 pub mod Holding
 pub mod InUse
@@ -25,8 +26,8 @@ pub mod Jumping
 pub mod Lacking
 pub mod Laid
 pub mod Leaving
-pub mod Lists
 pub mod Loops
+mod Made
 pub mod Needed
 pub mod Operands
 pub mod Operations
@@ -55,4 +56,5 @@ pub mod Structs
 pub mod Taking
 pub mod Updates
 pub mod Whole
+pub mod Within
 pub mod Writing

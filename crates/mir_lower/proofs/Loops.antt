@@ -18,7 +18,7 @@ use Rattle.source_meaning.proofs.Parts.{sized_part_is_part, block_parts}
 use Rattle.mir_lower.specs.Branches.{HasGoneOn}
 use Rattle.mir.specs.declared.operand.Place.{Place as GraphPlace}
 use Rattle.mir_lower.specs.Does.{here, IsFrameOf, Holds, AtPoint, Landings, Lands, Reaches, Nothing, LeadsTo, FrontAll, Stands}
-use Rattle.mir_lower.specs.Graph.{Shape, OpenTarget, local_of, with_scope, with_targets}
+use Rattle.mir_graph.specs.Graph.{Shape, OpenTarget, local_of, with_scope, with_targets}
 use Rattle.mir_lower.specs.Growth.{Grows, Spares, IsInside, IsSound, IsReady}
 use Rattle.mir_lower.specs.Jumps.{IsEntered}
 use Rattle.mir_lower.specs.Leaving.{Idles}

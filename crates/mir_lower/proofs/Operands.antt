@@ -7,8 +7,8 @@ use Rattle.mir.specs.declared.operand.OperandKind.{OperandKind}
 use Rattle.mir.specs.declared.operand.OperandKind.TheVariants.{Copy}
 use Rattle.mir.specs.declared.ids.LocalId.{LocalId}
 use Rattle.mir.specs.declared.operand.Place.{Place as GraphPlace}
-use Rattle.mir.specs.Memory.{Memory}
-use Rattle.mir.specs.Run.{Frame, operand_bytes as mir_bytes, operand_type as mir_type}
+use Rattle.mir.specs.Memory.{Memory, number_held}
+use Rattle.mir.specs.Run.{Frame, operand_bytes as mir_bytes, operand_out as mir_out, operand_type as mir_type}
 use Rattle.source_meaning.specs.Around.{Around, marking}
 use Rattle.source_meaning.specs.Ends.{no_cost, Go, Stuck, then_do}
 use Rattle.source_meaning.specs.Events.{marked, marked_as_operand}
@@ -17,14 +17,14 @@ use Rattle.source_meaning.specs.Source.{Source, unadjusted, Node, Binding, Place
 use Rattle.source_meaning.proofs.Marks.{literal_operand_marks, operand_marks, place_marks, path_marks}
 use Rattle.mir_lower.specs.Does.{Stands, here, IsFrameOf, Holds, Landings, Reaches, Nothing, LeadsTo, Fits, Does, DoesPlace}
 use Rattle.mir.specs.WholePlaces.{whole_place}
-use Rattle.mir_lower.specs.Graph.{Shape}
+use Rattle.mir_graph.specs.Graph.{Shape}
 use Rattle.mir_lower.specs.Growth.{Grows, IsSound, IsOpen}
 use Rattle.body_forms.specs.Literals.{IsLiteral}
 use Rattle.mir_lower.specs.Lowered.{IsGiven, IsNamed, LowersInto, LowersPlace, LowersOperand, Keeps}
 use Rattle.mir_lower.specs.Runs.{run_from, Comes}
 use Rattle.mir_lower.proofs.Growing.{grows-refl, grows-trans}
 use Rattle.mir_lower.proofs.Laid.{lays-literal, lays-name, lays-temp}
-use Rattle.mir_lower.proofs.Projecting.{at-later}
+use Rattle.mir_lower.proofs.Projecting.{at-later, whole-at}
 use Rattle.mir_lower.proofs.Reading.{place-fits}
 use Rattle.mir_lower.proofs.Reaching.{none-entered, comes-refl, reaches-then}
 use Rattle.mir_lower.proofs.Sparing.{spares-refl, spares-trans}
@@ -35,10 +35,11 @@ use Rattle.mir_lower.proofs.Serving.{serves-less}
 
 -- a literal's operand
 pub literal-fits : (source : Source) (whole : Shape) (frame : Frame) (e : ℕ) (literal : CoreLiteral) (operand : OperandKind) (is : IsLiteral source e literal operand) → Fits source operand whole frame (Literally is.is_constant.ty is.bytes)
-unfolding mir_bytes mir_type
+unfolding mir_bytes mir_type mir_out
 literal-fits source whole frame e literal operand is =
     record {
       bytes = λ store memory holds. ap (mir_bytes frame memory) is.is_constant.is_constant ∙ is.is_constant.bytes_are;
+      out = λ store memory holds. ap (mir_out frame.program.world frame.body (number_held memory frame.cells)) is.is_constant.is_constant;
       ty = ap (mir_type frame.program.world frame.body) is.is_constant.is_constant;
     }
 
@@ -138,7 +139,7 @@ lowers-temp source s0 s1 s2 e local form given into =
       };
       does = record {
         at = place_of_cell (Node e);
-        is = record { found = into.keeps.grows.temps e local.0 given.found; elements = refl };
+        is = whole-at s2 local (Node e) (into.keeps.grows.temps e local.0 given.found);
         does = record {
           reaches = λ whole frame grows sound is lands around stands fuel serves store memory holds.
               into-place source s0 s1 s2 whole frame e form into.does grows sound is given.keeps
@@ -170,7 +171,7 @@ lowers-name source s e local name sound opened form named =
       };
       does = record {
         at = place_of_cell (Binding named.binding.0);
-        is = record { found = named.found; elements = refl };
+        is = whole-at s local (Binding named.binding.0) named.found;
         does = record { reaches = λ whole frame grows whole-sound frame-is lands around stands fuel serves store memory holds. name-place source whole frame s e local.0 name named form lands around stands fuel serves store memory holds };
       };
       laid = lays-name source s e local.0 name sound form named;

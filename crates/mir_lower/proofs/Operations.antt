@@ -13,16 +13,16 @@ use Rattle.mir.specs.declared.span.MirSpan.{MirSpan}
 use Rattle.mir.specs.declared.statement.Statement.{Statement}
 use Rattle.mir.specs.declared.statement.StatementKind.TheVariants.{Assign}
 use Rattle.mir.specs.Memory.{Memory}
-use Rattle.mir.specs.Run.{Frame, rvalue_bytes, operand_bytes as mir_bytes, read}
+use Rattle.mir.specs.Run.{Frame, reads_out, rvalue_bytes, operand_bytes as mir_bytes, read}
 use Rattle.source_meaning.specs.Around.{Around}
 use Rattle.source_meaning.specs.Events.{marked_itself}
-use Rattle.source_meaning.specs.Meaning.{constant_cost, level_at, callees_at, put, put_literal, named_into, into_of}
-use Rattle.source_meaning.specs.Places.{place_bytes, bytes_behind}
-use Rattle.source_meaning.specs.Source.{Source, node, Cell, Binding, Place as SourcePlace, whole as place_of_cell, Store}
+use Rattle.source_meaning.specs.Meaning.{constant_cost, copy_to, level_at, callees_at, put, put_literal, named_into, into_of, read_into}
+use Rattle.source_meaning.specs.Places.{operand_bytes, operand_out, place_bytes, bytes_behind}
+use Rattle.source_meaning.specs.Source.{Source, node, Cell, Binding, Place as SourcePlace, whole as place_of_cell, Store, Operand, At}
 use Rattle.source_meaning.proofs.Marks.{literal_marks, name_marks}
-use Rattle.mir_lower.specs.Does.{Stands, here, IsAt, IsFrameOf, Holds, Landings, Reaches, Nothing}
+use Rattle.mir_lower.specs.Does.{Stands, here, Fits, IsAt, IsFrameOf, Holds, Landings, Reaches, Nothing}
 use Rattle.mir.specs.WholePlaces.{whole_place}
-use Rattle.mir_lower.specs.Graph.{Shape, with_statement, local_of}
+use Rattle.mir_graph.specs.Graph.{Shape, with_statement, local_of}
 use Rattle.mir_lower.specs.Growth.{Grows, IsSound, IsOpen, IsReady}
 use Rattle.body_forms.specs.Literals.{IsLiteral}
 use Rattle.mir_lower.specs.Lowered.{Keeps, IsNamed, LowersOwn}
@@ -33,7 +33,8 @@ use Rattle.mir_lower.proofs.Reading.{place-fits}
 use Rattle.mir_lower.proofs.Reaching.{comes-refl, reaches-after}
 use Rattle.mir_lower.proofs.Sound.{with_statement-sound, with_statement-open, with_statement-scope}
 use Rattle.mir_lower.proofs.Sparing.{with_statement-spares}
-use Rattle.mir_lower.proofs.Steps.{local_of-grows, assigned-bytes, does-form}
+use Rattle.mir_lower.proofs.Projecting.{whole-at}
+use Rattle.mir_lower.proofs.Steps.{local_of-grows, assigned-bytes, assigned-copy, assigned-within, does-form}
 use Rattle.mir_lower.specs.Callees.{Serves}
 
 abbrev pub assignment : LocalId → Rvalue → MirSpan → Statement
@@ -74,7 +75,19 @@ whole-bytes source store c = refl
 
 -- a local that holds a cell's value is that cell, as a place
 pub local-at : (s : Shape) (local : LocalId) (c : Cell) → local_of s c ≡ Some local.0 → IsAt s (whole_place local) (place_of_cell c)
-local-at s local c found = record { found = found; elements = refl }
+local-at s local c found = whole-at s local c found
+
+-- the bytes of an operand of the source are copied to a cell's local, where it isn't a place out of bounds
+module _ (source : Source) (s whole : Shape) (frame : Frame) (to : LocalId) (operand : MirOperand) (span : MirSpan) (opened : IsOpen s) (sound : IsSound source whole) (is : IsFrameOf whole frame) (lands : Landings) (grows : Grows (with_statement (assignment to (Use operand) span) s) whole) (c : Cell) (local : local_of whole c ≡ Some to.0) (store : Store) (memory : Memory) (holds : Holds whole frame store memory) where
+  pub assigned-read : (value : Operand) → Fits source operand.kind whole frame value → Reaches source whole lands frame (here s) (here (with_statement (assignment to (Use operand) span) s)) memory (Nothing whole frame) (read_into source value (record { cell = c }) store)
+  unfolding reads_out rvalue_bytes
+  assigned-read value fits =
+      assigned-within source s whole frame to (Use operand) span opened sound is lands grows c local store memory holds (operand_out source store value) (fits.out store memory holds) (copy_to store (record { cell = c }) (operand_bytes source store value))
+      (λ within. assigned-copy source s whole frame to (Use operand) span opened sound is lands grows c local store memory holds (operand_bytes source store value) (ap read (fits.bytes store memory holds)))
+
+-- a copy of a place has what lies at the place
+pub copy-fits : (source : Source) (whole : Shape) (frame : Frame) (from : Place) (at : SourcePlace) (operand : MirOperand) → operand.kind ≡ Copy from → IsSound source whole → IsFrameOf whole frame → frame.program.world ≡ source.world → IsAt whole from at → Fits source operand.kind whole frame (At at)
+copy-fits source whole frame from at operand copies sound frame-is world is = subst (λ kind. Fits source kind whole frame (At at)) (sym copies) (place-fits source whole frame from at sound frame-is world is)
 
 -- a literal is assigned
 pub lowers-literal : (source : Source) (s new : Shape) (e : ℕ) (l : CoreLiteral) (to : LocalId) (operand : MirOperand) (span : MirSpan) → IsReady source s e → node source e ≡ Some (expr.Literal l) → IsLiteral source e l operand.kind → new ≡ with_statement (assignment to (Use operand) span) s → (c : Cell) → local_of s c ≡ Some to.0 → LowersOwn source s new e c

@@ -11,12 +11,12 @@ use Rattle.mir.specs.declared.ids.LocalId.{LocalId}
 use Rattle.source_meaning.specs.Calls.{names_bound, parameters, parameter_cells, self_bound}
 use Rattle.source_meaning.specs.Source.{Source, Cell, Binding, bound_by, pattern}
 use Rattle.mir_lower.specs.Callees.{AreLocalsOf}
-use Rattle.mir_lower.specs.Graph.{Shape, binding_local, local_of, with_mark, with_scope}
+use Rattle.mir_graph.specs.Graph.{Shape, binding_local, local_of, with_mark, with_scope}
 use Rattle.mir_lower.specs.Growth.{IsSound}
 use Rattle.mir_lower.specs.Parameters.{MarksBindings, LowersParameters}
 use Rattle.mir_lower.specs.Refusals.{RefusesPattern, RefusesParameters}
 use Rattle.mir_lower.proofs.InUse.{lacks-binding}
-use Rattle.mir_lower.proofs.Lists.{take-next}
+use Rattle.mir_graph.proofs.Lists.{take-next}
 use Rattle.mir_lower.proofs.Sound.{with_scope-sound}
 
 -- the locals of bindings, with one more, and where each is another table's too

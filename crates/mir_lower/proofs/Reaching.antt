@@ -7,7 +7,7 @@ use Rattle.mir.specs.Run.{Frame, Ending, Ended, levels_over}
 use Rattle.source_meaning.specs.Ends.{Cost, cost_of, End, Fault, Panic, Undefined, NoLayout, Go, Jumps, Faults, Stuck, More, plus, after, then_do}
 use Rattle.source_meaning.specs.Source.{Source, Store}
 use Rattle.mir_lower.specs.Does.{Holds, Landing, Nowhere, AtPoint, Landings, Lands, Goes, Reaches}
-use Rattle.mir_lower.specs.Graph.{Shape}
+use Rattle.mir_graph.specs.Graph.{Shape}
 use Rattle.mir_lower.specs.Runs.{Point, run_from, HasGrown, Comes, Enters, IsFault, EndsAfter, BreaksOff, KeepsOthers}
 use Rattle.mir_lower.specs.Stops.{IsCut, StopsFrom}
 use Rattle.mir_lower.proofs.Stopping.{cut-before, ends-as, first-part, stops-within}

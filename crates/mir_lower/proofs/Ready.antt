@@ -10,8 +10,8 @@ use Rattle.source_meaning.specs.Steps.{parts_of}
 use Rattle.source_meaning.specs.Valid.{itself, part, EvaluatesIn, itself_in, part_in, opened_in}
 use Rattle.source_meaning.proofs.Core.{part_is_below}
 use Rattle.source_meaning.proofs.Depth.{evaluates_then, evaluated_is_no_later}
-use Rattle.mir_lower.specs.Graph.{Shape, OpenTarget, opened_of, target_of_blocks}
-use Rattle.mir_lower.specs.declared.graph.LoopBlocks.{LoopBlocks}
+use Rattle.mir_graph.specs.Graph.{Shape, OpenTarget, opened_of, target_of_blocks}
+use Rattle.mir_graph.specs.declared.graph.LoopBlocks.{LoopBlocks}
 use Rattle.mir_lower.specs.Growth.{Grows, IsSound, IsOpen, IsPlaced, IsInside, IsAround, IsReady, ArePartsReady, IsReadyPart}
 use Rattle.mir_lower.specs.Jumps.{IsEntered}
 use Rattle.mir_lower.proofs.Growing.{grows-refl}

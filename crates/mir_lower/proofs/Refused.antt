@@ -16,7 +16,7 @@ use Rattle.source_meaning.specs.Valid.{itself, part, EvaluatesIn}
 use Rattle.source_meaning.proofs.Core.{part_is_below}
 use Rattle.body_forms.specs.declared.form.Form.TheVariants as form
 use Rattle.body_forms.specs.Form.{HasForm}
-use Rattle.mir_lower.specs.Graph.{Shape, OpenTarget, meant_target, opened_of}
+use Rattle.mir_graph.specs.Graph.{Shape, OpenTarget, meant_target, opened_of}
 use Rattle.mir_lower.specs.Growth.{IsReady, IsAround}
 use Rattle.mir_lower.specs.Lowered.{IsStatementOf, HasStatements}
 use Rattle.mir_lower.specs.Refusals.{RefusesPattern, RefusesTarget, RefusesAt}

@@ -4,17 +4,18 @@ use Rattle.std.specs.Prelude.{slice_get, option_and_then}
 use Rattle.std.proofs.Math.ListN.{length-set}
 use Rattle.mir.specs.declared.body.BasicBlock.{BasicBlock}
 use Rattle.mir.specs.declared.body.Terminator.{Terminator}
+use Rattle.mir.specs.declared.errors.MirEvalError.{MirEvalError}
 use Rattle.mir.specs.Memory.{Memory}
-use Rattle.mir.specs.Run.{Frame, GoesTo, terminated}
+use Rattle.mir.specs.Run.{Frame, GoesTo, faults, terminated}
 use Rattle.source_meaning.specs.Source.{Source}
 use Rattle.mir_lower.specs.Branches.{IsReserved}
 use Rattle.mir_lower.specs.Does.{here, IsFrameOf}
-use Rattle.mir_lower.specs.Graph.{Shape, no_statements, ended, with_terminator, with_reserved, with_entered, temp_of, never_of}
+use Rattle.mir_graph.specs.Graph.{Shape, no_statements, ended, with_terminator, with_reserved, with_entered}
 use Rattle.mir_lower.specs.Growth.{terminator_at, Grows, Spares, IsSound, IsOpen}
-use Rattle.mir_lower.specs.Runs.{Entry, Comes, start_of}
-use Rattle.mir_lower.proofs.Growing.{same_blocks, append_grows, current_of, grows_by, grows-trans, with_terminator-is, with_terminator-grows}
-use Rattle.mir_lower.proofs.Leaving.{heads-ended, comes-ended}
-use Rattle.mir_lower.proofs.Lists.{slice_get-front, slice_get-last, slice_get-set_other, slice_get_in, slice_get_below}
+use Rattle.mir_lower.specs.Runs.{Entry, Comes, EndsAfter, IsFault, run_from, start_of}
+use Rattle.mir_lower.proofs.Growing.{same_blocks, append_grows, current_of, grows_blocks, grows-trans, with_terminator-is, with_terminator-grows}
+use Rattle.mir_lower.proofs.Leaving.{heads-ended, comes-ended, ends-ended}
+use Rattle.mir_graph.proofs.Lists.{slice_get-front, slice_get-last, slice_get-set_other, slice_get_in, slice_get_below}
 use Rattle.mir_lower.proofs.Running.{here-is}
 use Rattle.mir_lower.proofs.Sound.{sound_by, with_terminator-sound, with_terminator-scope, with_terminator-targets}
 
@@ -31,8 +32,8 @@ pub record Reserves (source : Source) (old new : Shape) (block : ℕ) : Type 0 w
   pub many : length new.blocks ≡ suc (length old.blocks)
 
 with_reserved-grows : (s : Shape) → Grows s (with_reserved s)
-unfolding with_reserved temp_of never_of
-with_reserved-grows s = grows_by s (with_reserved s) (append_grows s.blocks (no_statements ∷ [])) refl refl (λ i l h. h) (λ e l h. h) (λ e l h. h)
+unfolding with_reserved
+with_reserved-grows s = grows_blocks s (with_reserved s) (append_grows s.blocks (no_statements ∷ [])) refl refl refl refl
 
 with_reserved-spares : (s : Shape) → Spares s (with_reserved s)
 unfolding with_reserved
@@ -111,6 +112,8 @@ pub record LeadsOn (source : Source) (old new : Shape) (t : Terminator) (next : 
   -- the run is about to enter the block that the terminator leads to, and then enters it
   pub heads : (whole : Shape) (frame : Frame) → Grows new whole → IsFrameOf whole frame → (memory : Memory) (target : ℕ) → terminated frame memory (Some t) ≡ GoesTo frame memory target → Comes frame 0 0 (here old) memory (Entry target) memory
   pub comes : (whole : Shape) (frame : Frame) → Grows new whole → IsFrameOf whole frame → (memory : Memory) (target : ℕ) → terminated frame memory (Some t) ≡ GoesTo frame memory target → Comes frame 1 0 (here old) memory (start_of target) memory
+  -- or it ends in the terminator's fault
+  pub ends : (whole : Shape) (frame : Frame) → Grows new whole → IsFrameOf whole frame → (memory : Memory) (e : MirEvalError) → terminated frame memory (Some t) ≡ faults frame e → EndsAfter 0 (IsFault e) (run_from frame memory (here old))
 
 with_terminator-others : (t : Terminator) (s : Shape) → IsOpen s → (at : ℕ) → at ≢ s.current → slice_get (with_terminator t s).blocks at ≡ slice_get s.blocks at
 with_terminator-others t s opened at apart =
@@ -123,8 +126,8 @@ with_terminator-many t s opened =
     ap (λ (n : Shape). length n.blocks) (with_terminator-is t s b.0 b.1) ∙ length-set s.blocks s.current (ended t b.0)
 
 with_entered-grows : (block : ℕ) (s : Shape) → Grows s (with_entered block s)
-unfolding with_entered temp_of never_of
-with_entered-grows block s = grows_by s (with_entered block s) (same_blocks s.blocks) refl refl (λ i l h. h) (λ e l h. h) (λ e l h. h)
+unfolding with_entered
+with_entered-grows block s = grows_blocks s (with_entered block s) (same_blocks s.blocks) refl refl refl refl
 
 with_entered-sound : (source : Source) (block : ℕ) (s : Shape) → IsSound source s → IsSound source (with_entered block s)
 unfolding with_entered
@@ -176,4 +179,6 @@ leads-on source s new t next sound opened reserved same =
           heads-ended t s whole frame opened (grows-trans done (with_entered next done) whole (with_entered-grows next done) grows) is memory target goes;
       comes = λ whole frame grows is memory target goes.
           comes-ended t s whole frame opened (grows-trans done (with_entered next done) whole (with_entered-grows next done) grows) is memory target goes;
+      ends = λ whole frame grows is memory e stops.
+          ends-ended t s whole frame opened (grows-trans done (with_entered next done) whole (with_entered-grows next done) grows) is memory e stops;
     })

@@ -19,7 +19,7 @@ use Rattle.source_meaning.specs.Valid.{itself, own, inside, sized_part, sized_pa
 use Rattle.source_meaning.proofs.Marks.{return_marks}
 use Rattle.source_meaning.proofs.Parts.{sized_part_is_part}
 use Rattle.mir_lower.specs.Does.{here, IsFrameOf, Holds, Landings, Lands, Reaches, Nothing, Stands}
-use Rattle.mir_lower.specs.Graph.{Shape, with_terminator, with_block}
+use Rattle.mir_graph.specs.Graph.{Shape, with_terminator, with_block}
 use Rattle.mir_lower.specs.Growth.{Grows, IsSound, IsOpen, IsReady}
 use Rattle.mir_lower.specs.Jumps.{HasReturned}
 use Rattle.mir_lower.specs.Leaving.{Idles}

@@ -9,8 +9,8 @@ use Rattle.world.specs.Lookups.{layout_of}
 use Rattle.mir.specs.declared.body.Local.{Local}
 use Rattle.source_meaning.specs.Core.{is_place}
 use Rattle.source_meaning.specs.Entering.{below, body_room, cell_room, has_cell, room_of}
-use Rattle.source_meaning.specs.Source.{Source, Cell, Result, Node, Binding, Never, cell_type, unadjusted, root, same_cell}
-use Rattle.mir_lower.specs.Graph.{Shape, local_of}
+use Rattle.source_meaning.specs.Source.{Source, Cell, Result, Node, Binding, IndexOf, Never, cell_type, unadjusted, root, same_cell}
+use Rattle.mir_graph.specs.Graph.{Shape, local_of}
 use Rattle.mir_lower.specs.Growth.{IsSound, IsStored}
 use Rattle.mir_lower.proofs.Beginning.{typed-below}
 use Rattle.mir_lower.proofs.Holding.{cells}
@@ -87,44 +87,37 @@ module _ (of : ℕ → Cell) where
       (λ later. let rest = less-by-one g i list later in omega arith)
       within
 
--- the cells that the source counts: those of expressions, of their `!`, and of bindings
+-- the cells that the source counts: those of expressions, of their `!`, of their indices, and of bindings
 module _ (source : Source) where
   expressions : List ℕ
   expressions = filter (has_cell source) (below (length source.body.exprs))
 
-  nevers : List ℕ
-  nevers = below (length source.body.exprs)
+  all : List ℕ
+  all = below (length source.body.exprs)
 
   bindings : List ℕ
   bindings = below (length source.body.bindings)
 
   total : (Cell → ℕ) → ℕ
-  total g = weight Node g expressions + weight Never g nevers + weight Binding g bindings
+  total g = weight Node g expressions + weight Never g all + weight IndexOf g all + weight Binding g bindings
 
   IsCounted : Cell → Type 0
   IsCounted Result = ⊥
   IsCounted (Node e) = Among expressions e
   IsCounted (Binding b) = Among bindings b
-  IsCounted (Never e) = Among nevers e
+  IsCounted (Never e) = Among all e
+  IsCounted (IndexOf e) = Among all e
 
   counts-one : (g : Cell → ℕ) (c : Cell) → IsCounted c → g c + total (without c g) ≤ total g
   unfolding total IsCounted
-  counts-one g Result counted = absurd counted
-  counts-one g (Node e) counted =
-      let one = less-by-one Node g e expressions counted in
-      let others = no-more Binding (Node e) g bindings in
-      let more = no-more Never (Node e) g nevers in
-      omega arith
-  counts-one g (Binding b) counted =
-      let one = less-by-one Binding g b bindings counted in
-      let others = no-more Node (Binding b) g expressions in
-      let more = no-more Never (Binding b) g nevers in
-      omega arith
-  counts-one g (Never e) counted =
-      let one = less-by-one Never g e nevers counted in
-      let others = no-more Node (Never e) g expressions in
-      let more = no-more Binding (Never e) g bindings in
-      omega arith
+  counts-one g c counted = by-kind c counted (no-more Node c g expressions) (no-more Never c g all) (no-more IndexOf c g all) (no-more Binding c g bindings) where
+    by-kind : (c : Cell) → IsCounted c → weight Node (without c g) expressions ≤ weight Node g expressions → weight Never (without c g) all ≤ weight Never g all → weight IndexOf (without c g) all ≤ weight IndexOf g all → weight Binding (without c g) bindings ≤ weight Binding g bindings →
+        g c + total (without c g) ≤ total g
+    by-kind Result counted nodes nevers indices bound = absurd counted
+    by-kind (Node e) counted nodes nevers indices bound = let one = less-by-one Node g e expressions counted in omega arith
+    by-kind (Never e) counted nodes nevers indices bound = let one = less-by-one Never g e all counted in omega arith
+    by-kind (IndexOf e) counted nodes nevers indices bound = let one = less-by-one IndexOf g e all counted in omega arith
+    by-kind (Binding b) counted nodes nevers indices bound = let one = less-by-one Binding g b bindings counted in omega arith
 
   -- what each of a list weighs no more than a cell that is counted, and that no other of the list has
   fits-total : {A : Type 0} (weigh : A → ℕ) (list : List A) (has : ℕ → Cell → Type 0) (g : Cell → ℕ) →
@@ -153,6 +146,7 @@ module _ (source : Source) where
   place (Node e) = Node e
   place (Binding b) = Binding b
   place (Never e) = Never e
+  place (IndexOf e) = IndexOf e
 
   place-type : (c : Cell) → cell_type source (place c) ≡ cell_type source c
   unfolding place
@@ -160,26 +154,17 @@ module _ (source : Source) where
   place-type (Node e) = refl
   place-type (Binding b) = refl
   place-type (Never e) = refl
+  place-type (IndexOf e) = refl
 
   -- no two cells that are given a local are counted at one place
   place-own : (c d : Cell) → IsStored source c → IsStored source d → place c ≡ place d → c ≡ d
   unfolding place
   place-own Result Result one other same = refl
   place-own Result (Node e) one other same = let is : root source ≡ e = cc in let less = other.2 in absurd (omega arith)
-  place-own Result (Binding b) one other same = cc
-  place-own Result (Never e) one other same = cc
   place-own (Node e) Result one other same = let is : e ≡ root source = cc in let less = one.2 in absurd (omega arith)
-  place-own (Node e) (Node f) one other same = same
-  place-own (Node e) (Binding b) one other same = cc
-  place-own (Node e) (Never f) one other same = cc
-  place-own (Binding b) Result one other same = cc
-  place-own (Binding b) (Node e) one other same = cc
-  place-own (Binding b) (Binding c) one other same = same
-  place-own (Binding b) (Never e) one other same = cc
-  place-own (Never e) Result one other same = cc
-  place-own (Never e) (Node f) one other same = cc
-  place-own (Never e) (Binding b) one other same = cc
-  place-own (Never e) (Never f) one other same = same
+  place-own Result _ one other same = cc
+  place-own _ Result one other same = cc
+  place-own _ _ one other same = same
 
   root-has-cell : has_cell source (root source) ≡ true
   root-has-cell = ap (λ b. not (is_place (unadjusted source (root source))) || b) (itself (root source)) ∙ or-true (not (is_place (unadjusted source (root source)))) where
@@ -191,7 +176,7 @@ module _ (source : Source) where
     or-true false = refl
 
   place-counted : (c : Cell) (ty : Ty) → root source < length source.body.exprs → IsStored source c → cell_type source c ≡ Some ty → IsCounted (place c)
-  unfolding place IsCounted expressions nevers bindings
+  unfolding place IsCounted expressions all bindings
   place-counted Result ty within stored typed =
       among-kept (has_cell source) (below (length source.body.exprs)) (root source) (among-below (length source.body.exprs) (root source) within) root-has-cell
   place-counted (Node e) ty within stored typed =
@@ -199,19 +184,16 @@ module _ (source : Source) where
       among-kept (has_cell source) (below (length source.body.exprs)) e (among-below (length source.body.exprs) e less) (ap (λ b. not b || (e == root source)) stored.1)
   place-counted (Binding b) ty within stored typed = among-below (length source.body.bindings) b (typed-below source b ty typed)
   place-counted (Never e) ty within stored typed = among-below (length source.body.exprs) e stored.2
+  place-counted (IndexOf e) ty within stored typed = among-below (length source.body.exprs) e stored.1.within
 
   total-is : total (cell_room source) ≡ body_room source
-  unfolding total weight body_room expressions nevers bindings
+  unfolding total weight body_room expressions all bindings
   total-is =
-      let counted : List ℕ = filter (has_cell source) (below (length source.body.exprs)) in
-      let all : List ℕ = below (length source.body.exprs) in
-      let bound : List ℕ = below (length source.body.bindings) in
-      ap (λ n. n + sum_by (λ e. cell_room source (Never e)) all + sum_by (λ b. cell_room source (Binding b)) bound)
-      (sym (sum-map (λ e. cell_room source (Node e)) counted))
-      ∙ ap (λ n. sum (map (λ e. cell_room source (Node e)) counted) + n + sum_by (λ b. cell_room source (Binding b)) bound)
-      (sym (sum-map (λ e. cell_room source (Never e)) all))
-      ∙ ap (λ n. sum (map (λ e. cell_room source (Node e)) counted) + sum (map (λ e. cell_room source (Never e)) all) + n)
-      (sym (sum-map (λ b. cell_room source (Binding b)) bound))
+      let nodes = sum-map (λ e. cell_room source (Node e)) (filter (has_cell source) (below (length source.body.exprs))) in
+      let nevers = sum-map (λ e. cell_room source (Never e)) (below (length source.body.exprs)) in
+      let indices = sum-map (λ e. cell_room source (IndexOf e)) (below (length source.body.exprs)) in
+      let bound = sum-map (λ b. cell_room source (Binding b)) (below (length source.body.bindings)) in
+      omega arith
 
   -- the cell at a place has the local
   abbrev HasLocal : Shape → ℕ → Cell → Type 0

@@ -8,11 +8,11 @@ use Rattle.mir.specs.declared.statement.Statement.{Statement}
 use Rattle.mir.specs.Memory.{Memory}
 use Rattle.mir.specs.Run.{Frame, Faulted, trail_of, faults, after_statement, after_statements, terminated, next_from, going_on, running}
 use Rattle.mir_lower.specs.Does.{here, IsFrameOf}
-use Rattle.mir_lower.specs.Graph.{Shape, more_of, with_statement}
+use Rattle.mir_graph.specs.Graph.{Shape, more_of, with_statement}
 use Rattle.mir_lower.specs.Growth.{statement_at, count_at, Grows, IsOpen}
 use Rattle.mir_lower.specs.Runs.{KeepsOthers, Point, Within, run_from, Comes, IsFault, EndsAfter}
 use Rattle.mir_lower.proofs.Growing.{current_of, with_statement-is}
-use Rattle.mir_lower.proofs.Lists.{slice_get-last, slice_get-set_same, drop-at}
+use Rattle.mir_graph.proofs.Lists.{slice_get-last, slice_get-set_same, drop-at}
 use Rattle.mir_lower.proofs.Taking.{statement-takes-none}
 
 -- the rest of a block after one of its statements

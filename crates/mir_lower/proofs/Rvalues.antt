@@ -1,5 +1,5 @@
 -- What the graph's rvalues give: what the operations that they are answer.
-use Rattle.std.proofs.Common.{◌≡◌, ℕ, zero, suc, List, [], ◌∷◌, ◌++◌, map, slice_get, flat_map, Option, Some, None, option_and_then, option_map, Result, Ok, Err, replicate, refl, sym, ap, ◌∙◌, subst}
+use Rattle.std.proofs.Common.{◌≡◌, ◌||◌, ℕ, Bool, true, false, List, [], ◌∷◌, ◌++◌, map, flat_map, Option, Some, None, option_and_then, option_map, Result, Ok, Err, replicate, refl, sym, ap, ◌∙◌, subst}
 use Rattle.std.specs.List.{concat}
 use Rattle.numbers.specs.Aggregates.{with_part, with_parts, constructed}
 use Rattle.numbers.specs.Constants.{number_in}
@@ -27,18 +27,18 @@ use Rattle.mir.specs.declared.operand.Rvalue.TheVariants.{Aggregate, Cast, Check
 use Rattle.mir.specs.declared.operand.UnOp.{UnOp}
 use Rattle.mir.specs.declared.operand.UnOp.TheVariants as one
 use Rattle.mir.specs.Memory.{Memory}
-use Rattle.mir.specs.Run.{Frame, aggregated, before, cast_to, laid_out as mir_laid_out, part_outside, placed_parts, read, repeats, rvalue_bytes, operated, operated_on, computed_of, answered as answer, operand_bytes as mir_bytes, operand_type as mir_type, operands_bytes}
+use Rattle.mir.specs.declared.body.MirBody.{MirBody}
+use Rattle.mir.specs.declared.ids.LocalId.{LocalId}
+use Rattle.mir.specs.Run.{Frame, operand_out as mir_out, reads_out, some_out, aggregated, before, cast_to, laid_out as mir_laid_out, part_outside, placed_parts, read, repeats, rvalue_bytes, operated, operated_on, computed_of, answered as answer, operand_bytes as mir_bytes, operand_type as mir_type, operands_bytes}
 use Rattle.source_meaning.specs.Aggregates.{array_length, laid_out, made, repeated_for}
 use Rattle.source_meaning.specs.Core.{Operation, Negate, Invert, Keep, Convert, Combine, MakeTuple, MakeArray, Repeat, MakeStruct}
 use Rattle.source_meaning.specs.Meaning.{Value, operand_kind, value_of, values_of, answered, converted_to, struct_of}
 use Rattle.source_meaning.specs.Places.{operand_bytes}
 use Rattle.body_forms.specs.Form.{operation_of}
 use Rattle.source_meaning.specs.Source.{Source, own_type, Store, Operand}
-use Rattle.source_meaning.specs.Structs.{picked}
 use Rattle.source_meaning.proofs.Aggregates.{length_of_array}
-use Rattle.source_meaning.proofs.Structs.{picked-more, picked-none, picks-first}
 use Rattle.mir_lower.specs.Does.{Holds, Fits, FitAll}
-use Rattle.mir_lower.specs.Graph.{Shape}
+use Rattle.mir_graph.specs.Graph.{Shape}
 use Rattle.body_forms.specs.Operations.{IsKindOf, IsRvalueOf, several_operation}
 use Rattle.body_forms.specs.declared.operation.Several.{Several}
 use Rattle.body_forms.specs.declared.operation.Several.TheVariants as several
@@ -295,55 +295,13 @@ repeat-computes source e element len x typed frame (given ∷ []) memory same re
     (subst (Agrees (repeated_for (number_in len) given.bytes)) (sym runs) (repeat-agrees (number_in len) given.bytes))
 repeat-computes source e element len x typed frame (value ∷ more ∷ rest) memory same reads = absurd reads.1
 
--- Structs: the operands at places have the values at these.
-
-value-read : (frame : Frame) (memory : Memory) (operands : List MirOperand) (values : List Value) → ReadAll frame memory operands values → (k : ℕ) (x : MirOperand) → slice_get operands k ≡ Some x → (value : Value) × (slice_get values k ≡ Some value) × Reads frame memory x value
-value-read frame memory [] values reads k x at = absurd cc
-value-read frame memory (one ∷ operands) [] reads k x at = absurd reads
-value-read frame memory (one ∷ operands) (value ∷ values) reads zero x at = let same : one ≡ x = cc in (value, refl, subst (λ (y : MirOperand). Reads frame memory y value) same reads.0)
-value-read frame memory (one ∷ operands) (value ∷ values) reads (suc k) x at = value-read frame memory operands values reads.1 k x at
-
-record ChosenRead (frame : Frame) (memory : Memory) (places : List ℕ) (fields : List MirOperand) (values : List Value) : Type 0 where
-  chosen : List Value
-  picks : picked places values ≡ Some chosen
-  reads : ReadAll frame memory fields chosen
-
-chosen-read : (frame : Frame) (memory : Memory) (places : List ℕ) (operands : List MirOperand) (values : List Value) (fields : List MirOperand) → ReadAll frame memory operands values → picked places operands ≡ Some fields → ChosenRead frame memory places fields values
-chosen-read frame memory [] operands values fields reads is =
-    let none : Some fields ≡ Some [] = sym is ∙ picked-none operands in
-    let same : fields ≡ [] = cc in
-    record { chosen = []; picks = picked-none values; reads = subst (λ (f : List MirOperand). ReadAll frame memory f []) (sym same) tt }
-chosen-read frame memory (place ∷ places) operands values fields reads is =
-    let from = picks-first place places operands fields is in
-    let first = value-read frame memory operands values reads place from.first from.there in
-    let rest = chosen-read frame memory places operands values from.others reads from.rest in
-    record {
-      chosen = first.0 ∷ rest.chosen;
-      picks = picked-more place places values first.0 rest.chosen first.1 rest.picks;
-      reads = subst (λ (f : List MirOperand). ReadAll frame memory f (first.0 ∷ rest.chosen)) (sym from.are) (first.2, rest.reads);
-    }
-
-struct-answer : (world : HirDatabase) (ty : Option Ty) (id : StructId) (args : GenericArgs) (places : List ℕ) (values chosen : List Value) → picked places values ≡ Some chosen →
-    answered world ty (MakeStruct id args places) values ≡ laid_out (layout_of world (type.Adt (adt.StructId id) args)) (map (λ (part : Value). part.bytes) chosen)
-unfolding answered
-struct-answer world ty id args places values chosen is = ap (struct_of (layout_of world (type.Adt (adt.StructId id) args))) is
+-- Structs, of the operands of their fields.
 
 struct-bytes : (source : Source) (frame : Frame) (memory : Memory) (id : StructId) (args : GenericArgs) (fields : List MirOperand) (parts : List (List ℕ)) → frame.program.world ≡ source.world → operands_bytes frame memory fields ≡ Some parts →
     rvalue_bytes frame memory (Aggregate (kind.Adt (variant.StructId id) args) fields) ≡ mir_laid_out (layout_of source.world (type.Adt (adt.StructId id) args)) parts
 unfolding rvalue_bytes aggregated
 struct-bytes source frame memory id args fields parts same is =
     ap (aggregated frame.program.world (kind.Adt (variant.StructId id) args)) is ∙ ap (λ world. mir_laid_out (layout_of world (type.Adt (adt.StructId id) args)) parts) same
-
-struct-computes : (source : Source) (e : ℕ) (id : StructId) (args : GenericArgs) (places : List ℕ) (operands fields : List MirOperand) → picked places operands ≡ Some fields →
-    Computes source e (MakeStruct id args places) operands (Aggregate (kind.Adt (variant.StructId id) args) fields)
-struct-computes source e id args places operands fields picks frame all memory same reads =
-    let from = chosen-read frame memory places operands all fields reads picks in
-    let parts = map (λ (part : Value). part.bytes) from.chosen in
-    let ty = type.Adt (adt.StructId id) args in
-    let answers = struct-answer source.world (own_type source e) id args places all from.chosen from.picks in
-    let runs = struct-bytes source frame memory id args fields parts same (parts-bytes frame memory fields from.chosen from.reads) in
-    subst (λ given. Agrees given (rvalue_bytes frame memory (Aggregate (kind.Adt (variant.StructId id) args) fields))) (sym answers)
-    (subst (Agrees (laid_out (layout_of source.world ty) parts)) (sym runs) (laid-agrees (layout_of source.world ty) parts))
 
 -- a struct of operands that fit those of the source is the struct of their values, where these are there
 pub struct-agrees : (source : Source) (whole : Shape) (frame : Frame) (id : StructId) (args : GenericArgs) (fields : List MirOperand) (chosen : List Operand) (store : Store) (memory : Memory) → Holds whole frame store memory → frame.program.world ≡ source.world →
@@ -364,30 +322,99 @@ pub is-aggregate : (source : Source) (e : ℕ) (several : Several) (given : _) (
 is-aggregate source e several.Tuple given operands of = record { given = given; of = of; is = refl }
 is-aggregate source e several.Array given operands of = record { given = given; of = of; is = refl }
 
--- whatever an operation of an expression makes in the graph, computes it
-pub rvalue-computes : (source : Source) (e : ℕ) (operation : Operation) (operands : List MirOperand) (r : Rvalue) → IsRvalueOf source e operation operands r → Computes source e operation operands r
-rvalue-computes source e Negate (x ∷ []) r is = subst (Computes source e Negate (x ∷ [])) (sym is) (unary-computes source e one.Neg x)
-rvalue-computes source e Invert (x ∷ []) r is = subst (Computes source e Invert (x ∷ [])) (sym is) (unary-computes source e one.Not x)
-rvalue-computes source e Keep (x ∷ []) r is = subst (Computes source e Keep (x ∷ [])) (sym is) (keep-computes source e x)
-rvalue-computes source e Convert (x ∷ []) r is = subst (Computes source e Convert (x ∷ [])) (sym is.is) (cast-computes source e is.ty x is.typed)
-rvalue-computes source e (Combine op) (x ∷ y ∷ []) r is = subst (Computes source e (Combine op) (x ∷ y ∷ [])) (sym is) (binary-computes source e op x y)
-rvalue-computes source e MakeTuple operands r is =
+-- an operation that makes no struct
+abbrev pub IsNoStruct : Operation → Type 0
+IsNoStruct (MakeStruct id args places) = ⊥
+IsNoStruct _ = Unit {0}
+
+-- whatever such an operation of an expression makes in the graph, computes it
+pub rvalue-computes : (source : Source) (e : ℕ) (operation : Operation) (operands : List MirOperand) (r : Rvalue) → IsNoStruct operation → IsRvalueOf source e operation operands r → Computes source e operation operands r
+rvalue-computes source e Negate (x ∷ []) r none is = subst (Computes source e Negate (x ∷ [])) (sym is) (unary-computes source e one.Neg x)
+rvalue-computes source e Invert (x ∷ []) r none is = subst (Computes source e Invert (x ∷ [])) (sym is) (unary-computes source e one.Not x)
+rvalue-computes source e Keep (x ∷ []) r none is = subst (Computes source e Keep (x ∷ [])) (sym is) (keep-computes source e x)
+rvalue-computes source e Convert (x ∷ []) r none is = subst (Computes source e Convert (x ∷ [])) (sym is.is) (cast-computes source e is.ty x is.typed)
+rvalue-computes source e (Combine op) (x ∷ y ∷ []) r none is = subst (Computes source e (Combine op) (x ∷ y ∷ [])) (sym is) (binary-computes source e op x y)
+rvalue-computes source e MakeTuple operands r none is =
     subst (Computes source e MakeTuple operands) (sym (is.is ∙ ap (λ given. Aggregate given operands) is.of.is)) (tuple-computes source e is.of.ty operands is.of.typed)
-rvalue-computes source e MakeArray operands r is =
+rvalue-computes source e MakeArray operands r none is =
     subst (Computes source e MakeArray operands) (sym (is.is ∙ ap (λ given. Aggregate given operands) is.of.is)) (array-computes source e is.of.element operands)
-rvalue-computes source e (MakeStruct id args places) operands r is =
-    subst (Computes source e (MakeStruct id args places) operands) (sym is.is) (struct-computes source e id args places operands is.fields is.picks)
-rvalue-computes source e Repeat (x ∷ []) r is = subst (Computes source e Repeat (x ∷ [])) (sym is.is) (repeat-computes source e is.element is.len x is.typed)
-rvalue-computes source e Negate [] r is = absurd is
-rvalue-computes source e Negate (x ∷ y ∷ rest) r is = absurd is
-rvalue-computes source e Invert [] r is = absurd is
-rvalue-computes source e Invert (x ∷ y ∷ rest) r is = absurd is
-rvalue-computes source e Keep [] r is = absurd is
-rvalue-computes source e Keep (x ∷ y ∷ rest) r is = absurd is
-rvalue-computes source e Convert [] r is = absurd is
-rvalue-computes source e Convert (x ∷ y ∷ rest) r is = absurd is
-rvalue-computes source e (Combine op) [] r is = absurd is
-rvalue-computes source e (Combine op) (x ∷ []) r is = absurd is
-rvalue-computes source e (Combine op) (x ∷ y ∷ z ∷ rest) r is = absurd is
-rvalue-computes source e Repeat [] r is = absurd is
-rvalue-computes source e Repeat (x ∷ y ∷ rest) r is = absurd is
+rvalue-computes source e (MakeStruct id args places) operands r none is = absurd none
+rvalue-computes source e Repeat (x ∷ []) r none is = subst (Computes source e Repeat (x ∷ [])) (sym is.is) (repeat-computes source e is.element is.len x is.typed)
+rvalue-computes source e Negate [] r none is = absurd is
+rvalue-computes source e Negate (x ∷ y ∷ rest) r none is = absurd is
+rvalue-computes source e Invert [] r none is = absurd is
+rvalue-computes source e Invert (x ∷ y ∷ rest) r none is = absurd is
+rvalue-computes source e Keep [] r none is = absurd is
+rvalue-computes source e Keep (x ∷ y ∷ rest) r none is = absurd is
+rvalue-computes source e Convert [] r none is = absurd is
+rvalue-computes source e Convert (x ∷ y ∷ rest) r none is = absurd is
+rvalue-computes source e (Combine op) [] r none is = absurd is
+rvalue-computes source e (Combine op) (x ∷ []) r none is = absurd is
+rvalue-computes source e (Combine op) (x ∷ y ∷ z ∷ rest) r none is = absurd is
+rvalue-computes source e Repeat [] r none is = absurd is
+rvalue-computes source e Repeat (x ∷ y ∷ rest) r none is = absurd is
+
+-- It reads a place that is out of bounds just where one of its operands is such a place.
+module _ (world : HirDatabase) (body : MirBody) (numbers : LocalId → Option ℕ) where
+  or-none : (test : Bool) → test ≡ (test || false)
+  or-none true = refl
+  or-none false = refl
+
+  one-out : (x : MirOperand) → mir_out world body numbers x.kind ≡ some_out world body numbers (x ∷ [])
+  unfolding some_out
+  one-out x = or-none (mir_out world body numbers x.kind)
+
+  pub two-out : (x y : MirOperand) → (mir_out world body numbers x.kind || mir_out world body numbers y.kind) ≡ some_out world body numbers (x ∷ y ∷ [])
+  unfolding some_out
+  two-out x y = ap (λ other. mir_out world body numbers x.kind || other) (or-none (mir_out world body numbers y.kind))
+
+  abbrev ReadsOut : List MirOperand → Rvalue → Type 0
+  ReadsOut operands r = reads_out world body numbers r ≡ some_out world body numbers operands
+
+  made-reads : (given : _) (operands : List MirOperand) → ReadsOut operands (Aggregate given operands)
+  unfolding reads_out
+  made-reads given operands = refl
+
+  unary-reads : (op : UnOp) (x : MirOperand) → ReadsOut (x ∷ []) (Unary op x)
+  unfolding reads_out
+  unary-reads op x = one-out x
+
+  use-reads : (x : MirOperand) → ReadsOut (x ∷ []) (Use x)
+  unfolding reads_out
+  use-reads x = one-out x
+
+  cast-reads : (ty : Ty) (x : MirOperand) → ReadsOut (x ∷ []) (Cast IntToInt x ty)
+  unfolding reads_out
+  cast-reads ty x = one-out x
+
+  repeat-reads : (len : Const) (x : MirOperand) → ReadsOut (x ∷ []) (Repeated x len)
+  unfolding reads_out
+  repeat-reads len x = one-out x
+
+  binary-reads : (op : Operator) (x y : MirOperand) → ReadsOut (x ∷ y ∷ []) (CheckedBinaryOp op x y)
+  unfolding reads_out
+  binary-reads op x y = two-out x y
+
+  pub rvalue-reads : (source : Source) (e : ℕ) (operation : Operation) (operands : List MirOperand) (r : Rvalue) → IsNoStruct operation → IsRvalueOf source e operation operands r → ReadsOut operands r
+  rvalue-reads source e Negate (x ∷ []) r none is = subst (ReadsOut (x ∷ [])) (sym is) (unary-reads one.Neg x)
+  rvalue-reads source e Invert (x ∷ []) r none is = subst (ReadsOut (x ∷ [])) (sym is) (unary-reads one.Not x)
+  rvalue-reads source e Keep (x ∷ []) r none is = subst (ReadsOut (x ∷ [])) (sym is) (use-reads x)
+  rvalue-reads source e Convert (x ∷ []) r none is = subst (ReadsOut (x ∷ [])) (sym is.is) (cast-reads is.ty x)
+  rvalue-reads source e (Combine op) (x ∷ y ∷ []) r none is = subst (ReadsOut (x ∷ y ∷ [])) (sym is) (binary-reads op x y)
+  rvalue-reads source e MakeTuple operands r none is = subst (ReadsOut operands) (sym is.is) (made-reads is.given operands)
+  rvalue-reads source e MakeArray operands r none is = subst (ReadsOut operands) (sym is.is) (made-reads is.given operands)
+  rvalue-reads source e (MakeStruct id args places) operands r none is = absurd none
+  rvalue-reads source e Repeat (x ∷ []) r none is = subst (ReadsOut (x ∷ [])) (sym is.is) (repeat-reads is.len x)
+  rvalue-reads source e Negate [] r none is = absurd is
+  rvalue-reads source e Negate (x ∷ y ∷ rest) r none is = absurd is
+  rvalue-reads source e Invert [] r none is = absurd is
+  rvalue-reads source e Invert (x ∷ y ∷ rest) r none is = absurd is
+  rvalue-reads source e Keep [] r none is = absurd is
+  rvalue-reads source e Keep (x ∷ y ∷ rest) r none is = absurd is
+  rvalue-reads source e Convert [] r none is = absurd is
+  rvalue-reads source e Convert (x ∷ y ∷ rest) r none is = absurd is
+  rvalue-reads source e (Combine op) [] r none is = absurd is
+  rvalue-reads source e (Combine op) (x ∷ []) r none is = absurd is
+  rvalue-reads source e (Combine op) (x ∷ y ∷ z ∷ rest) r none is = absurd is
+  rvalue-reads source e Repeat [] r none is = absurd is
+  rvalue-reads source e Repeat (x ∷ y ∷ rest) r none is = absurd is

@@ -1,28 +1,18 @@
 -- Each step of the builder keeps a graph sound and open.
-use Rattle.std.proofs.Common.{◌≡◌, ◌≢◌, ℕ, ◌+◌, ◌<◌, ◌⊎◌, ⊎_elim, inl, inr, List, [], ◌∷◌, ◌++◌, length, Option, Some, None, refl, sym, ap, ◌∙◌, subst, arith, length-append}
+use Rattle.std.proofs.Common.{◌≡◌, ℕ, ◌+◌, ◌⊎◌, ⊎_elim, List, [], ◌∷◌, ◌++◌, length, Option, Some, refl, sym, ap, ◌∙◌, subst, arith, length-append}
 use Rattle.std.specs.Prelude.{slice_get, option_and_then}
 use Rattle.std.proofs.Math.ListN.{length-set}
-use Rattle.std.proofs.lemmas.Bool.{cases_eq, cases_lt}
+use Rattle.std.proofs.lemmas.Bool.{cases_lt}
 use Rattle.types.specs.declared.ty.Ty.{Ty}
 use Rattle.mir.specs.declared.body.Local.{Local}
 use Rattle.mir.specs.declared.body.Terminator.{Terminator}
 use Rattle.mir.specs.declared.ids.LocalId.{LocalId}
-use Rattle.mir_lower.specs.declared.graph.Temps.{Temps}
 use Rattle.mir.specs.declared.statement.Statement.{Statement}
-use Rattle.source_meaning.specs.Source.{Source, Cell, Result, Node, Binding, Never, binding_type, cell_type, own_type, node_type, root}
-use Rattle.source_meaning.proofs.Never.{never-cell}
-use Rattle.mir_lower.specs.Graph.{Shape, no_statements, more_of, with_statement, with_terminator, with_block, temp_of, never_of, temp_at, binding_local, local_at, local_of, local_of_type, with_value, with_never_value, with_temp, with_never, with_scope}
+use Rattle.source_meaning.specs.Source.{Source, Cell, Result, Node, Binding, IndexOf, Never, binding_type, cell_type, node_type, root}
+use Rattle.mir_graph.specs.Graph.{Shape, no_statements, more_of, with_statement, with_terminator, with_block, binding_local, local_at, local_of, local_of_type, with_scope}
 use Rattle.mir_lower.specs.Growth.{terminator_at, IsUsed, IsStored, IsAllotted, IsSound, IsOpen}
-use Rattle.mir_lower.proofs.Lists.{slice_get-front, slice_get-last, slice_get-set_same, slice_get_in, slice_get_below}
-use Rattle.mir_lower.proofs.Growing.{current_of, with_statement-is, with_terminator-is, with_temp-grows, entry-length, temp_of-with_temp_same, temp_of-with_temp_other, never_of-with_temp, with_never-grows, never_of-with_never_same, never_of-with_never_other, temp_of-with_never}
-
--- a cell's local, where the tables stay
-same-local : (old new : Shape) → new.bindings ≡ old.bindings → new.temps ≡ old.temps → (c : Cell) → local_of new c ≡ local_of old c
-unfolding temp_of never_of binding_local
-same-local old new bindings temps Result = refl
-same-local old new bindings temps (Node e) = ap (λ (t : List Temps). temp_at (λ held. held.value) t e) temps
-same-local old new bindings temps (Never e) = ap (λ (t : List Temps). temp_at (λ held. held.never) t e) temps
-same-local old new bindings temps (Binding b) = ap (λ (t : List (Option LocalId)). local_at t b) bindings
+use Rattle.mir_graph.proofs.Lists.{slice_get-front, slice_get-last, slice_get-set_same, slice_get_in, slice_get_below}
+use Rattle.mir_lower.proofs.Growing.{current_of, same-local, with_statement-is, with_terminator-is}
 
 -- a cell that is given a local is used
 pub stored-is-used : (source : Source) (c : Cell) → IsStored source c → IsUsed source c
@@ -30,6 +20,7 @@ stored-is-used source Result stored = tt
 stored-is-used source (Node e) stored = stored.0
 stored-is-used source (Binding b) stored = tt
 stored-is-used source (Never e) stored = stored.0
+stored-is-used source (IndexOf e) stored = stored
 
 -- no new local, and no cell with another local
 pub no-more-allotted : (source : Source) (old new : Shape) → new.locals ≡ old.locals → ((c : Cell) (l : ℕ) → local_of new c ≡ Some l → local_of old c ≡ Some l) → ((c : Cell) (l : ℕ) → local_of old c ≡ Some l → local_of new c ≡ Some l) →
@@ -143,105 +134,6 @@ with_scope-sound source scope s sound = sound_by source s (with_scope scope s) r
 pub with_scope-open : (scope : List Cell) (s : Shape) → IsOpen s → IsOpen (with_scope scope s)
 unfolding terminator_at
 with_scope-open scope s opened = record { there = opened.there; unended = opened.unended }
-
-pub with_temp-open : (e : ℕ) (ty : Ty) (s : Shape) → IsOpen s → IsOpen (with_temp e ty s)
-unfolding with_temp terminator_at
-with_temp-open e ty s opened = record { there = opened.there; unended = opened.unended }
-
-pub with_temp-locals : (e : ℕ) (ty : Ty) (s : Shape) → (with_temp e ty s).locals ≡ s.locals ++ local_of_type ty ∷ []
-unfolding with_temp
-with_temp-locals e ty s = refl
-
-pub with_temp-scope : (e : ℕ) (ty : Ty) (s : Shape) → (with_temp e ty s).scope ≡ s.scope
-unfolding with_temp
-with_temp-scope e ty s = refl
-
-pub with_temp-nodes : (e : ℕ) (ty : Ty) (s : Shape) → length (with_temp e ty s).temps ≡ length s.temps
-unfolding with_temp
-with_temp-nodes e ty s = entry-length (with_value (length s.locals)) s.temps e
-
-pub with_temp-binding : (e : ℕ) (ty : Ty) (s : Shape) (b : ℕ) → binding_local (with_temp e ty s) b ≡ binding_local s b
-unfolding with_temp binding_local
-with_temp-binding e ty s b = refl
-
--- an expression's local is the new one, or one that it had
-temp_cases : (e f l : ℕ) (ty : Ty) (s : Shape) → e < length s.temps → temp_of (with_temp e ty s) f ≡ Some l → ((f ≡ e) × (l ≡ length s.locals)) ⊎ ((f ≢ e) × (temp_of s f ≡ Some l))
-temp_cases e f l ty s within h =
-    ⊎_elim
-    (λ same. let new = temp_of-with_temp_same e ty s within in let h' : temp_of (with_temp e ty s) e ≡ Some l = ap (temp_of (with_temp e ty s)) (sym same) ∙ h in inl (same, cc))
-    (λ differ. inr (differ, sym (temp_of-with_temp_other e f ty s differ) ∙ h))
-    (cases_eq f e)
-
--- so is any cell's
-temp-cells : (e : ℕ) (ty : Ty) (s : Shape) → e < length s.temps → (c : Cell) (l : ℕ) → local_of (with_temp e ty s) c ≡ Some l → ((c ≡ Node e) × (l ≡ length s.locals)) ⊎ (local_of s c ≡ Some l)
-temp-cells e ty s within Result l h = inr h
-temp-cells e ty s within (Node f) l h = ⊎_elim (λ new. inl (ap Node new.0, new.1)) (λ old. inr old.1) (temp_cases e f l ty s within h)
-temp-cells e ty s within (Binding b) l h = inr (sym (with_temp-binding e ty s b) ∙ h)
-temp-cells e ty s within (Never f) l h = inr (sym (never_of-with_temp e f ty s) ∙ h)
-
--- where the expression had no local, each cell keeps its own
-temp-kept : (e : ℕ) (ty : Ty) (s : Shape) → temp_of s e ≡ None → (c : Cell) (l : ℕ) → local_of s c ≡ Some l → local_of (with_temp e ty s) c ≡ Some l
-temp-kept e ty s none Result l h = h
-temp-kept e ty s none (Node f) l h = (with_temp-grows e ty s none).temps f l h
-temp-kept e ty s none (Binding b) l h = with_temp-binding e ty s b ∙ h
-temp-kept e ty s none (Never f) l h = never_of-with_temp e f ty s ∙ h
-
-pub with_temp-sound : (source : Source) (e : ℕ) (ty : Ty) (s : Shape) → e < length s.temps → node_type source e ≡ Some ty → IsStored source (Node e) → temp_of s e ≡ None → IsSound source s → IsSound source (with_temp e ty s)
-with_temp-sound source e ty s within has stored none sound =
-    record {
-      nodes = with_temp-nodes e ty s ∙ sound.nodes;
-      bound = λ b t h. let at = sound.bound b t h in (at.0, with_temp-binding e ty s b ∙ at.1);
-      allotted = one-more-allotted source s (with_temp e ty s) (Node e) ty (with_temp-locals e ty s) stored (temp_of-with_temp_same e ty s within) has (temp-cells e ty s within) (temp-kept e ty s none) sound.allotted;
-    }
-
--- The same, where an expression was given a local for its `!`.
-
-pub with_never-open : (e : ℕ) (ty : Ty) (s : Shape) → IsOpen s → IsOpen (with_never e ty s)
-unfolding with_never terminator_at
-with_never-open e ty s opened = record { there = opened.there; unended = opened.unended }
-
-pub with_never-locals : (e : ℕ) (ty : Ty) (s : Shape) → (with_never e ty s).locals ≡ s.locals ++ local_of_type ty ∷ []
-unfolding with_never
-with_never-locals e ty s = refl
-
-pub with_never-scope : (e : ℕ) (ty : Ty) (s : Shape) → (with_never e ty s).scope ≡ s.scope
-unfolding with_never
-with_never-scope e ty s = refl
-
-pub with_never-nodes : (e : ℕ) (ty : Ty) (s : Shape) → length (with_never e ty s).temps ≡ length s.temps
-unfolding with_never
-with_never-nodes e ty s = entry-length (with_never_value (length s.locals)) s.temps e
-
-pub with_never-binding : (e : ℕ) (ty : Ty) (s : Shape) (b : ℕ) → binding_local (with_never e ty s) b ≡ binding_local s b
-unfolding with_never binding_local
-with_never-binding e ty s b = refl
-
-never_cases : (e f l : ℕ) (ty : Ty) (s : Shape) → e < length s.temps → never_of (with_never e ty s) f ≡ Some l → ((f ≡ e) × (l ≡ length s.locals)) ⊎ ((f ≢ e) × (never_of s f ≡ Some l))
-never_cases e f l ty s within h =
-    ⊎_elim
-    (λ same. let new = never_of-with_never_same e ty s within in let h' : never_of (with_never e ty s) e ≡ Some l = ap (never_of (with_never e ty s)) (sym same) ∙ h in inl (same, cc))
-    (λ differ. inr (differ, sym (never_of-with_never_other e f ty s differ) ∙ h))
-    (cases_eq f e)
-
-never-cells : (e : ℕ) (ty : Ty) (s : Shape) → e < length s.temps → (c : Cell) (l : ℕ) → local_of (with_never e ty s) c ≡ Some l → ((c ≡ Never e) × (l ≡ length s.locals)) ⊎ (local_of s c ≡ Some l)
-never-cells e ty s within Result l h = inr h
-never-cells e ty s within (Node f) l h = inr (sym (temp_of-with_never e f ty s) ∙ h)
-never-cells e ty s within (Binding b) l h = inr (sym (with_never-binding e ty s b) ∙ h)
-never-cells e ty s within (Never f) l h = ⊎_elim (λ new. inl (ap Never new.0, new.1)) (λ old. inr old.1) (never_cases e f l ty s within h)
-
-never-kept : (e : ℕ) (ty : Ty) (s : Shape) → never_of s e ≡ None → (c : Cell) (l : ℕ) → local_of s c ≡ Some l → local_of (with_never e ty s) c ≡ Some l
-never-kept e ty s none Result l h = h
-never-kept e ty s none (Node f) l h = temp_of-with_never e f ty s ∙ h
-never-kept e ty s none (Binding b) l h = with_never-binding e ty s b ∙ h
-never-kept e ty s none (Never f) l h = (with_never-grows e ty s none).nevers f l h
-
-pub with_never-sound : (source : Source) (e : ℕ) (ty : Ty) (s : Shape) → e < length s.temps → own_type source e ≡ Some ty → IsStored source (Never e) → never_of s e ≡ None → IsSound source s → IsSound source (with_never e ty s)
-with_never-sound source e ty s within has stored none sound =
-    record {
-      nodes = with_never-nodes e ty s ∙ sound.nodes;
-      bound = λ b t h. let at = sound.bound b t h in (at.0, with_never-binding e ty s b ∙ at.1);
-      allotted = one-more-allotted source s (with_never e ty s) (Never e) ty (with_never-locals e ty s) stored (never_of-with_never_same e ty s within) (never-cell source e stored.1 ∙ has) (never-cells e ty s within) (never-kept e ty s none) sound.allotted;
-    }
 
 pub binding_local-grows : (old new : Shape) (b l : ℕ) → new.bindings ≡ old.bindings → binding_local old b ≡ Some l → binding_local new b ≡ Some l
 unfolding binding_local

@@ -2,15 +2,14 @@
 use Rattle.std.proofs.Common.{◌≡◌, ◌≢◌, ℕ, ◌<◌, ◌≤◌, ⊎_elim, inl, inr, List, [], ◌∷◌, length, refl, sym, ap, ◌∙◌, subst, arith, length-append}
 use Rattle.std.specs.Prelude.{slice_get, slice_set}
 use Rattle.std.proofs.Math.ListN.{length-set}
-use Rattle.types.specs.declared.ty.Ty.{Ty}
 use Rattle.mir.specs.declared.body.BasicBlock.{BasicBlock}
 use Rattle.mir.specs.declared.body.Terminator.{Terminator}
 use Rattle.mir.specs.declared.statement.Statement.{Statement}
 use Rattle.source_meaning.specs.Source.{Cell}
-use Rattle.mir_lower.specs.Graph.{Shape, no_statements, more_of, ended, with_statement, with_terminator, with_block, with_temp, with_never, with_scope}
+use Rattle.mir_graph.specs.Graph.{Shape, no_statements, more_of, ended, with_statement, with_terminator, with_block, with_scope}
 use Rattle.mir_lower.specs.Growth.{Spares, IsOpen}
 use Rattle.mir_lower.proofs.Growing.{current_of, with_statement-is, with_terminator-is}
-use Rattle.mir_lower.proofs.Lists.{slice_get-front, slice_get-set_other, slice_get_in}
+use Rattle.mir_graph.proofs.Lists.{slice_get-front, slice_get-set_other, slice_get_in}
 
 -- no block is touched
 pub spares-same : (old new : Shape) → new.blocks ≡ old.blocks → new.current ≡ old.current → new.targets ≡ old.targets → Spares old new
@@ -73,14 +72,6 @@ with_block-spares s =
 
 pub with_scope-spares : (scope : List Cell) (s : Shape) → Spares s (with_scope scope s)
 with_scope-spares scope s = spares-same s (with_scope scope s) refl refl refl
-
-pub with_temp-spares : (e : ℕ) (ty : Ty) (s : Shape) → Spares s (with_temp e ty s)
-unfolding with_temp
-with_temp-spares e ty s = spares-same s (with_temp e ty s) refl refl refl
-
-pub with_never-spares : (e : ℕ) (ty : Ty) (s : Shape) → Spares s (with_never e ty s)
-unfolding with_never
-with_never-spares e ty s = spares-same s (with_never e ty s) refl refl refl
 
 -- a scope that was left
 pub scoped-spares : (s0 s1 s2 : Shape) → Spares s0 s1 → (outer : List Cell) → Spares (with_scope outer s1) s2 → Spares s0 s2

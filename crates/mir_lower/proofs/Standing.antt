@@ -3,7 +3,7 @@ use Rattle.std.proofs.Common.{◌≡◌, List, [], ◌++◌, refl, sym, ap, ◌�
 use Rattle.source_meaning.specs.Around.{Around, marking}
 use Rattle.source_meaning.specs.Source.{Source, Cell}
 use Rattle.mir_lower.specs.Does.{Landings, FrontAll, Stands}
-use Rattle.mir_lower.specs.Graph.{Shape, OpenTarget}
+use Rattle.mir_graph.specs.Graph.{Shape, OpenTarget}
 use Rattle.mir_lower.specs.Lowered.{Keeps}
 
 -- what came into use in the graph came into use around what is lowered next

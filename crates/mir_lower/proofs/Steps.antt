@@ -1,27 +1,26 @@
 -- One assignment: what the source writes is written to the local of its cell.
-use Rattle.std.proofs.Common.{◌≡◌, ℕ, zero, suc, ◌⊎◌, ⊎_elim, inl, inr, Bool, true, false, cond, List, length, Option, Some, None, Ok, Err, refl, sym, ap, ◌∙◌, subst, eqb}
+use Rattle.std.proofs.Common.{◌≡◌, ℕ, zero, suc, ◌⊎◌, ⊎_elim, inl, inr, Bool, true, false, cond, List, length, Option, Some, None, Ok, Err, refl, sym, ◌∙◌, subst, eqb}
 use borrow.Author.Tests.{eqb-true}
 use Rattle.source_meaning.specs.Core.{CoreExpr, Operation}
 use Rattle.types.specs.declared.ty.Ty.{Ty}
 use Rattle.numbers.specs.Operators.{Answer, Computes, Panics, Undefined}
-use Rattle.mir.specs.declared.errors.MirEvalError.{MirEvalError}
 use Rattle.mir.specs.declared.errors.MirEvalError as error
 use Rattle.mir.specs.declared.ids.LocalId.{LocalId}
-use Rattle.mir.specs.Places.{place_cell}
 use Rattle.mir.specs.declared.operand.Rvalue.{Rvalue}
 use Rattle.mir.specs.declared.span.MirSpan.{MirSpan}
 use Rattle.mir.specs.declared.statement.Statement.{Statement}
 use Rattle.mir.specs.declared.statement.StatementKind.TheVariants.{Assign}
-use Rattle.mir.specs.Memory.{Memory}
-use Rattle.mir.specs.Run.{Frame, after_statement, copied, read, rvalue_bytes}
+use Rattle.mir.specs.Memory.{Memory, number_held}
+use Rattle.mir.specs.Run.{Frame, after_statement, out_of_bounds as mir_out_of_bounds, read, reads_out, rvalue_bytes}
 use Rattle.source_meaning.specs.Around.{Around}
-use Rattle.source_meaning.specs.Ends.{no_cost, End, Go, Stuck}
-use Rattle.source_meaning.specs.Meaning.{Value, answered as answered_to, answered_for, copy_to, level_at, callees_at, put, put_answer, into_of}
-use Rattle.source_meaning.specs.Source.{Source, node, Cell, Result as Slot, Node, Binding, Never, Path, Store, with_cell_bytes}
+use Rattle.source_meaning.specs.Ends.{no_cost, End, Go, Faults, Stuck}
+use Rattle.source_meaning.specs.Meaning.{Value, answered as answered_to, answered_for, copy_to, level_at, callees_at, out_of_bounds, put, put_answer, within_bounds, into_of}
+use Rattle.source_meaning.specs.Source.{Source, node, Cell, Result as Slot, Node, Binding, IndexOf, Never, Path, Store, with_cell_bytes}
 use Rattle.source_meaning.proofs.Costs.{after-none}
 use Rattle.mir_lower.specs.Does.{Stands, here, IsFrameOf, Holds, Landings, Reaches, Performs, Nothing, DoesOwn}
 use Rattle.mir.specs.WholePlaces.{whole_place}
-use Rattle.mir_lower.specs.Graph.{Shape, with_statement, local_of}
+use Rattle.mir.proofs.WholePlaces.{whole-cell}
+use Rattle.mir_graph.specs.Graph.{Shape, with_statement, local_of}
 use Rattle.mir_lower.specs.Growth.{Grows, IsSound, IsOpen, IsPlaced}
 use Rattle.mir_lower.specs.Runs.{Point, run_from, Comes}
 use Rattle.mir_lower.proofs.Holding.{assigns, interval-of}
@@ -29,6 +28,7 @@ use Rattle.mir_lower.proofs.Reaching.{none-entered, reaches-after}
 use Rattle.mir_lower.proofs.Rvalues.{Agrees}
 use Rattle.mir_lower.proofs.Running.{comes-statement, ends-statement}
 use Rattle.mir_lower.proofs.Sound.{binding_local-grows}
+use Rattle.mir_lower.proofs.Within.{assigns-out, assigns-panic}
 use Rattle.mir_lower.specs.Callees.{Serves}
 use Rattle.mir_lower.proofs.Serving.{serves-less}
 
@@ -46,6 +46,7 @@ local_of-grows old new grows Slot l h = h
 local_of-grows old new grows (Node e) l h = grows.temps e l h
 local_of-grows old new grows (Binding b) l h = binding_local-grows old new b l grows.bindings h
 local_of-grows old new grows (Never e) l h = grows.nevers e l h
+local_of-grows old new grows (IndexOf e) l h = grows.indices e l h
 
 pub placed-later : (old new : Shape) → Grows old new → (local : ℕ) → IsPlaced old local → IsPlaced new local
 placed-later old new grows local placed = record { cell = placed.cell; found = local_of-grows old new grows placed.cell local placed.found }
@@ -65,15 +66,14 @@ module _ (source : Source) (s whole : Shape) (frame : Frame) (to : LocalId) (rva
       (λ stuck. subst (Reaches source whole lands frame (here s) (here (with_statement added s)) memory (Nothing whole frame)) (sym stuck) (inr tt))
       (put-cases store (record { cell = c }) bytes)
 
-  faults : (e : MirEvalError) → rvalue_bytes frame memory rvalue ≡ Err e → after_statement frame memory (Assign (whole_place to) rvalue) ≡ Err e
-  unfolding after_statement copied place_cell
-  faults e err =
+  faults : (word : List ℕ) → rvalue_bytes frame memory rvalue ≡ Err (error.Panic word) → after_statement frame memory (Assign (whole_place to) rvalue) ≡ Err (error.Panic word)
+  faults word err =
       let at = interval-of frame memory to.0 (store c) (holds.shows c to.0 local) in
-      ap (λ o. copied memory o (rvalue_bytes frame memory rvalue)) at.1 ∙ ap (λ r. copied memory (Some at.0) r) err
+      assigns-panic frame memory (whole_place to) rvalue at.0 word (whole-cell frame.program.world frame.body (number_held memory frame.cells) frame.cells (whole_place to) refl ∙ at.1) err
 
   pub assigned-agreeing : (answer : Answer) → Agrees answer (rvalue_bytes frame memory rvalue) → Reaches source whole lands frame (here s) (here (with_statement added s)) memory (Nothing whole frame) (put_answer store (record { cell = c }) answer)
   assigned-agreeing (Computes bytes) computes = assigned-bytes bytes computes
-  assigned-agreeing (Panics word) computes = inr (ends-statement added s whole frame memory opened grows is (error.Panic word) (faults (error.Panic word) computes))
+  assigned-agreeing (Panics word) computes = inr (ends-statement added s whole frame memory opened grows is (error.Panic word) (faults word computes))
   assigned-agreeing Undefined computes = inr tt
 
   -- or of what an operation answers for values, where there are some
@@ -85,6 +85,15 @@ module _ (source : Source) (s whole : Shape) (frame : Frame) (to : LocalId) (rva
   pub assigned-copy : (given : Option (List ℕ)) → rvalue_bytes frame memory rvalue ≡ read given → Reaches source whole lands frame (here s) (here (with_statement added s)) memory (Nothing whole frame) (copy_to store (record { cell = c }) given)
   assigned-copy (Some bytes) computes = assigned-bytes bytes computes
   assigned-copy None computes = inr tt
+
+  -- or a panic, where something that is read is out of bounds
+  pub assigned-out : reads_out frame.program.world frame.body (number_held memory frame.cells) rvalue ≡ true → Reaches source whole lands frame (here s) (here (with_statement added s)) memory (Nothing whole frame) (Faults out_of_bounds no_cost)
+  assigned-out reads = inr (ends-statement added s whole frame memory opened grows is mir_out_of_bounds (assigns-out frame memory (whole_place to) rvalue reads))
+
+  -- by whether something that is read is out of bounds
+  pub assigned-within : (out : Bool) → reads_out frame.program.world frame.body (number_held memory frame.cells) rvalue ≡ out → (end : End (Unit {0})) → (out ≡ false → Reaches source whole lands frame (here s) (here (with_statement added s)) memory (Nothing whole frame) end) → Reaches source whole lands frame (here s) (here (with_statement added s)) memory (Nothing whole frame) (within_bounds out end)
+  assigned-within true reads end within = assigned-out reads
+  assigned-within false reads end within = within refl
 
 -- what an end does from a point on, it does from one that leads there over no block
 pub reaches-from : {A : Type 0} (source : Source) (whole : Shape) (lands : Landings) (frame : Frame) (p q to : Point) (memory : Memory) (claim : A → Type 0) → Comes frame 0 0 p memory q memory → (end : End A) → Reaches source whole lands frame q to memory claim end → Reaches source whole lands frame p to memory claim end

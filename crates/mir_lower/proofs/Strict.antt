@@ -6,14 +6,16 @@ use Rattle.mir.specs.declared.operand.OperandKind.{OperandKind}
 use Rattle.mir.specs.declared.ids.LocalId.{LocalId}
 use Rattle.mir.specs.declared.operand.Rvalue.{Rvalue}
 use Rattle.mir.specs.declared.span.MirSpan.{MirSpan}
-use Rattle.mir.specs.Memory.{Memory}
+use Rattle.mir.specs.Memory.{Memory, number_held}
 use Rattle.mir.specs.Run.{Frame}
 use Rattle.source_meaning.specs.Around.{Around, marking}
-use Rattle.source_meaning.specs.Core.{Operation, Strict, is_truth}
+use Rattle.source_meaning.specs.Core.{Operation, Negate, Invert, Keep, Convert, Combine, MakeTuple, MakeArray, Repeat, MakeStruct, Strict, is_truth}
 use Rattle.source_meaning.specs.Ends.{Go, then_do, no_cost}
 use Rattle.source_meaning.specs.Events.{marked_as_operand}
-use Rattle.source_meaning.specs.Meaning.{Levels, level_at, callees_at, operands_of, into_of, values_of}
-use Rattle.source_meaning.specs.Source.{Source, node, own_type, unadjusted, Cell, Store}
+use Rattle.source_meaning.specs.Meaning.{Levels, answered_for, level_at, callees_at, made_into, operands_of, operated_into, into_of, put_answer, values_of, within_bounds}
+use Rattle.source_meaning.specs.Places.{some_out}
+use Rattle.source_meaning.specs.Source.{Source, node, own_type, unadjusted, Cell, Operand, Store}
+use Rattle.source_meaning.specs.Structs.{picked}
 use Rattle.source_meaning.specs.Steps.{parts_of}
 use Rattle.source_meaning.specs.Valid.{own, inside, sized_parts, IsLaidOutNode}
 use Rattle.source_meaning.proofs.Depth.{operand_is_part}
@@ -21,19 +23,21 @@ use Rattle.source_meaning.proofs.Marks.{strict_marks}
 use Rattle.source_meaning.proofs.Parts.{sized_operand}
 use Rattle.mir_lower.specs.Callees.{Serves}
 use Rattle.mir_lower.specs.Does.{Stands, here, IsFrameOf, Holds, Landings, Reaches, Nothing, Fits, FitAll}
-use Rattle.mir_lower.specs.Graph.{Shape, with_statement, local_of}
+use Rattle.mir_graph.specs.Graph.{Shape, with_statement, local_of}
 use Rattle.mir_lower.specs.Growth.{Grows, IsSound, IsOpen, IsReady}
 use Rattle.mir_lower.specs.Lowered.{LaysOut, LowersOwn, LowersOperand, LowersOperands}
 use Rattle.body_forms.specs.Operations.{IsRvalueOf}
 use Rattle.mir_lower.proofs.Growing.{grows-refl, grows-trans, with_statement-grows}
 use Rattle.mir_lower.proofs.Laid.{layouts-before, plain-part, one-of}
+use Rattle.mir_lower.proofs.Made.{fit-picked, made-reaches}
 use Rattle.mir_lower.proofs.Operations.{assignment}
 use Rattle.mir_lower.proofs.Reaching.{comes-refl, reaches-then}
-use Rattle.mir_lower.proofs.Rvalues.{kinds, read-all, rvalue-computes}
+use Rattle.mir_lower.proofs.Rvalues.{IsNoStruct, kinds, read-all, rvalue-computes, rvalue-reads}
 use Rattle.mir_lower.proofs.Sound.{with_statement-sound, with_statement-open, with_statement-scope}
 use Rattle.mir_lower.proofs.Sparing.{spares-refl, spares-trans, with_statement-spares}
 use Rattle.mir_lower.proofs.Standing.{marking-fits}
-use Rattle.mir_lower.proofs.Steps.{local_of-grows, assigned-values, does-form}
+use Rattle.mir_lower.proofs.Steps.{local_of-grows, assigned-values, assigned-within, does-form}
+use Rattle.mir_lower.proofs.Within.{some-out-same}
 
 no-operands : (source : Source) (below : Levels) (around : Around) (store : Store) → operands_of source below around [] store ≡ Go [] store no_cost
 unfolding operands_of
@@ -93,6 +97,31 @@ lays-strict source s1 new e operation es form below grows laid plain layouts f (
     let operand = sized_operand source es child (subst (λ n. Contains (sized_parts source n) child) form within) in
     below child operand.0 operand.1 (plain-part source e child (operand_is_part source e operation es child form operand.0) laid plain) (layouts-before source s1 new grows layouts) f rest
 
+-- The assignment of what an operation makes of its operands, which fit those of the source: an operation that makes no struct, and any.
+operates-on-values : (source : Source) (s whole : Shape) (frame : Frame) (e : ℕ) (operation : Operation) (operands : List MirOperand) (rvalue : Rvalue) (to : LocalId) (span : MirSpan) → IsNoStruct operation → IsRvalueOf source e operation operands rvalue → IsOpen s → IsSound source whole → IsFrameOf whole frame → frame.program.world ≡ source.world → (lands : Landings) → Grows (with_statement (assignment to rvalue span) s) whole → (c : Cell) → local_of whole c ≡ Some to.0 → (store : Store) (memory : Memory) → Holds whole frame store memory → (values : List Operand) → FitAll source (kinds operands) whole frame values →
+    Reaches source whole lands frame (here s) (here (with_statement (assignment to rvalue span) s)) memory (Nothing whole frame) (within_bounds (some_out source store values) (put_answer store (record { cell = c }) (answered_for source.world (own_type source e) operation (values_of source store values))))
+operates-on-values source s whole frame e operation operands rvalue to span none made opened sound is world lands grows c local store memory holds values fit =
+    assigned-within source s whole frame to rvalue span opened sound is lands grows c local store memory holds (some_out source store values)
+    (rvalue-reads frame.program.world frame.body (number_held memory frame.cells) source e operation operands rvalue none made ∙ some-out-same source whole frame store memory holds operands values fit)
+    (put_answer store (record { cell = c }) (answered_for source.world (own_type source e) operation (values_of source store values)))
+    (λ within. assigned-values source s whole frame to rvalue span opened sound is lands grows c local store memory holds (own_type source e) operation (values_of source store values)
+    (λ given have. rvalue-computes source e operation operands rvalue none made frame given memory world (read-all source whole frame store memory holds operands values fit given have)))
+
+operates : (source : Source) (s whole : Shape) (frame : Frame) (e : ℕ) (operation : Operation) (operands : List MirOperand) (rvalue : Rvalue) (to : LocalId) (span : MirSpan) → IsRvalueOf source e operation operands rvalue → IsOpen s → IsSound source whole → IsFrameOf whole frame → frame.program.world ≡ source.world → (lands : Landings) → Grows (with_statement (assignment to rvalue span) s) whole → (c : Cell) → local_of whole c ≡ Some to.0 → (store : Store) (memory : Memory) → Holds whole frame store memory → (values : List Operand) → FitAll source (kinds operands) whole frame values →
+    Reaches source whole lands frame (here s) (here (with_statement (assignment to rvalue span) s)) memory (Nothing whole frame) (operated_into source e operation values (record { cell = c }) store)
+operates source s whole frame e Negate operands rvalue to span made opened sound is world lands grows c local store memory holds values fit = operates-on-values source s whole frame e Negate operands rvalue to span tt made opened sound is world lands grows c local store memory holds values fit
+operates source s whole frame e Invert operands rvalue to span made opened sound is world lands grows c local store memory holds values fit = operates-on-values source s whole frame e Invert operands rvalue to span tt made opened sound is world lands grows c local store memory holds values fit
+operates source s whole frame e Keep operands rvalue to span made opened sound is world lands grows c local store memory holds values fit = operates-on-values source s whole frame e Keep operands rvalue to span tt made opened sound is world lands grows c local store memory holds values fit
+operates source s whole frame e Convert operands rvalue to span made opened sound is world lands grows c local store memory holds values fit = operates-on-values source s whole frame e Convert operands rvalue to span tt made opened sound is world lands grows c local store memory holds values fit
+operates source s whole frame e (Combine op) operands rvalue to span made opened sound is world lands grows c local store memory holds values fit = operates-on-values source s whole frame e (Combine op) operands rvalue to span tt made opened sound is world lands grows c local store memory holds values fit
+operates source s whole frame e MakeTuple operands rvalue to span made opened sound is world lands grows c local store memory holds values fit = operates-on-values source s whole frame e MakeTuple operands rvalue to span tt made opened sound is world lands grows c local store memory holds values fit
+operates source s whole frame e MakeArray operands rvalue to span made opened sound is world lands grows c local store memory holds values fit = operates-on-values source s whole frame e MakeArray operands rvalue to span tt made opened sound is world lands grows c local store memory holds values fit
+operates source s whole frame e Repeat operands rvalue to span made opened sound is world lands grows c local store memory holds values fit = operates-on-values source s whole frame e Repeat operands rvalue to span tt made opened sound is world lands grows c local store memory holds values fit
+operates source s whole frame e (MakeStruct id args places) operands rvalue to span made opened sound is world lands grows c local store memory holds values fit =
+    subst (λ r. Grows (with_statement (assignment to r span) s) whole → Reaches source whole lands frame (here s) (here (with_statement (assignment to r span) s)) memory (Nothing whole frame) (made_into source id args (picked places values) (record { cell = c }) store)) (sym made.is)
+    (λ more. made-reaches source s whole frame to id args made.fields span opened sound is world lands more c local store memory holds (picked places values) (fit-picked source whole frame operands values fit places made.fields made.picks))
+    grows
+
 -- a strict form was lowered: its operands, and then one assignment
 pub lowers-strict : (source : Source) (s0 s1 new : Shape) (e : ℕ) (operation : Operation) (es : List ℕ) (operands : List MirOperand) (rvalue : Rvalue) (to : LocalId) (span : MirSpan) → IsReady source s0 e → node source e ≡ Some (Strict operation es) → LowersOperands source s0 s1 es (kinds operands) → IsRvalueOf source e operation operands rvalue → new ≡ with_statement (assignment to rvalue span) s1 → (c : Cell) → local_of s0 c ≡ Some to.0 → LowersOwn source s0 new e c
 lowers-strict source s0 s1 new e operation es operands rvalue to span ready form given is same c local =
@@ -119,10 +148,7 @@ lowers-strict source s0 s1 new e operation es operands rvalue to span ready form
           let found = local_of-grows s0 whole (grows-trans s0 s1 whole given.keeps.grows grown) c to.0 local in
           reaches-then source whole lands frame (here s0) (here s1) (here (with_statement st s1)) memory (FitAll source (kinds operands) whole frame) (Nothing whole frame) (operands_of source (level_at source fuel) around es store) _
           (given.does.reaches whole frame grown sound frame-is lands around stands fuel serves store memory holds)
-          (λ values store1 memory1 claims.
-          assigned-values source s1 whole frame to rvalue span opened sound frame-is lands grows c found store1 memory1 claims.0 (own_type source e) operation (values_of source store1 values)
-          (λ given have. rvalue-computes source e operation operands rvalue is frame given memory1 serves.world
-          (read-all source whole frame store1 memory1 claims.0 operands values claims.1 given have)))
+          (λ values store1 memory1 claims. operates source s1 whole frame e operation operands rvalue to span is opened sound frame-is serves.world lands grows c found store1 memory1 claims.0 values claims.1)
 
 -- the operands of an operator on one operand, and on two
 pub lowers-one : (source : Source) (s0 s1 : Shape) (e : ℕ) (operand : OperandKind) → LowersOperand source s0 s1 e operand → LowersOperands source s0 s1 (e ∷ []) (operand ∷ [])

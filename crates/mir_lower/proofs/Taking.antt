@@ -23,9 +23,8 @@ use Rattle.mir.specs.declared.operand.Operand.{Operand}
 use Rattle.mir.specs.declared.statement.StatementKind.{StatementKind}
 use Rattle.mir.specs.declared.statement.StatementKind.TheVariants.{Assign, FakeRead, StorageLive, StorageDead}
 use Rattle.mir.specs.Errors.{layout_error_of}
-use Rattle.mir.specs.Memory.{Memory, cell_before, cell_size_of, cells_of, pushed, size_before, sizes_of}
-use Rattle.mir.specs.Places.{place_cell}
-use Rattle.mir.specs.Run.{Frame, after_statement, bad_write, called_cells, copied, filled, operand_bytes, read, rvalue_bytes}
+use Rattle.mir.specs.Memory.{Memory, cell_before, cell_size_of, cells_of, number_held, pushed, size_before, sizes_of}
+use Rattle.mir.specs.Run.{Frame, after_statement, assigned, assigns_out, bad_write, called_cells, cell_now, copied, filled, operand_bytes, read, rvalue_bytes}
 use Rattle.mir_mem.proofs.Writing.{writes_keep_lengths}
 use Rattle.source_meaning.specs.Entering.{room_of}
 use Rattle.mir_lower.specs.Runs.{HasGrown}
@@ -50,13 +49,18 @@ copied-takes-none memory later (Some cell) (Ok bytes) is = write-takes-none memo
 copied-takes-none memory later (Some cell) (Err e) is = absurd cc
 copied-takes-none memory later None bytes is = absurd cc
 
+assigned-takes-none : (out : Bool) (memory later : Memory) (cell : Option Interval) (bytes : Result (List ℕ) MirEvalError) → assigned out memory cell bytes ≡ Ok later → HasGrown 0 memory later
+assigned-takes-none true memory later cell bytes is = absurd cc
+assigned-takes-none false memory later cell bytes is = copied-takes-none memory later cell bytes is
+
 same-memory : (memory later : Memory) → ◌≡◌ {A = Result Memory MirEvalError} (Ok memory) (Ok later) → HasGrown 0 memory later
 same-memory memory later is = let same : memory ≡ later = cc in subst (HasGrown 0 memory) same (not-grown memory 0)
 
 -- nor does a statement
 pub statement-takes-none : (frame : Frame) (memory later : Memory) (kind : StatementKind) → after_statement frame memory kind ≡ Ok later → HasGrown 0 memory later
 unfolding after_statement
-statement-takes-none frame memory later (Assign place rvalue) is = copied-takes-none memory later (place_cell frame.program.world frame.body frame.cells place) (rvalue_bytes frame memory rvalue) is
+statement-takes-none frame memory later (Assign place rvalue) is =
+    assigned-takes-none (assigns_out frame.program.world frame.body (number_held memory frame.cells) place rvalue) memory later (cell_now frame memory place) (rvalue_bytes frame memory rvalue) is
 statement-takes-none frame memory later (FakeRead place) is = same-memory memory later is
 statement-takes-none frame memory later (StorageLive local) is = same-memory memory later is
 statement-takes-none frame memory later (StorageDead local) is = same-memory memory later is

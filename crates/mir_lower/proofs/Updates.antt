@@ -1,21 +1,18 @@
 -- Struct literals with a base, and values of unit structs. A literal finds the place of its base, then its operands, and makes the struct
 -- of these and of copies of the base's fields.
-use Rattle.std.proofs.Common.{◌≡◌, ℕ, zero, suc, ◌<◌, ◌==◌, inr, List, [], ◌∷◌, ◌++◌, length, map, Contains, Option, Some, None, option_and_then, slice_get, if◌then◌else◌, refl, sym, ap, ◌∙◌, subst, append_assoc, false, true, cond, Bool, arith, ltb-true, ⊎_elim}
+use Rattle.std.proofs.Common.{◌≡◌, ℕ, zero, suc, ◌<◌, ◌==◌, inr, List, [], ◌∷◌, ◌++◌, length, map, Contains, Option, Some, None, slice_get, if◌then◌else◌, refl, sym, ap, ◌∙◌, subst, append_assoc, false, true, cond, Bool, arith, ltb-true, ⊎_elim}
 use Rattle.std.specs.Prelude.{All, IsSome, flat_map, nat_lt, option_map}
 use Rattle.std.proofs.lemmas.List.Elements.{All-nil, All-cons, All-head, All-tail, All-weaker, Contains-append_cases}
 use borrow.Author.Tests.{eqb-true}
-use Rattle.types.specs.declared.ids.AdtId.TheVariants as adt
 use Rattle.types.specs.declared.ids.StructId.{StructId}
 use Rattle.types.specs.declared.ids.VariantId.TheVariants as variant
 use Rattle.types.specs.declared.ty.GenericArgs.{GenericArgs}
-use Rattle.types.specs.declared.ty.Ty.TheVariants as type
-use Rattle.world.specs.Lookups.{layout_of}
 use Rattle.world.specs.Nodes.{field_numbers}
 use Rattle.world.specs.declared.expr.RecordLitField.{RecordLitField}
 use Rattle.world.specs.declared.items.FieldRow.{FieldRow}
 use Rattle.mir.specs.Memory.{Memory}
 use Rattle.mir.specs.Projections.{AreInterned, HasId, Projection, projection_of}
-use Rattle.mir.specs.Run.{Frame, rvalue_bytes}
+use Rattle.mir.specs.Run.{Frame}
 use Rattle.mir.specs.declared.ids.LocalId.{LocalId}
 use Rattle.mir.specs.declared.operand.AggregateKind.TheVariants as kind
 use Rattle.mir.specs.declared.operand.Operand.{Operand as MirOperand}
@@ -27,10 +24,10 @@ use Rattle.mir.specs.declared.operand.Rvalue.TheVariants.{Aggregate}
 use Rattle.mir.specs.declared.span.MirSpan.{MirSpan}
 use Rattle.source_meaning.specs.Around.{Around, marking}
 use Rattle.source_meaning.specs.Core as expr
-use Rattle.source_meaning.specs.Core.{CoreExpr, FieldOf, PlaceElem, is_truth}
+use Rattle.source_meaning.specs.Core.{CoreExpr, FieldOf, is_truth}
 use Rattle.source_meaning.specs.Ends.{then_do}
 use Rattle.source_meaning.specs.Events.{marked_as_operand, marked_as_place, marked_itself}
-use Rattle.source_meaning.specs.Meaning.{level_at, callees_at, operands_of, put_answer, struct_of, values_of, into_of}
+use Rattle.source_meaning.specs.Meaning.{level_at, callees_at, made_into, operands_of, into_of}
 use Rattle.source_meaning.specs.Source.{Source, node, unadjusted, Cell, Store, Place, Operand, At, projected}
 use Rattle.source_meaning.specs.Steps.{parts_of}
 use Rattle.source_meaning.specs.Structs.{FieldSource, Written, OfBase, field_sources, place_named, source_by}
@@ -40,14 +37,14 @@ use Rattle.source_meaning.proofs.Depth.{update_operand_is_part}
 use Rattle.source_meaning.proofs.Marks.{unit_marks, update_marks}
 use Rattle.source_meaning.proofs.Parts.{first_is_contained, rest_is_contained, sized_operand, sized_part_is_part, update_parts}
 use Rattle.source_meaning.proofs.Updates.{field_operands-more, no_field_operands}
-use Rattle.body_forms.specs.Form.{core_form, core_source, elem_of, literal_sources}
+use Rattle.body_forms.specs.Form.{core_form, core_source, field_elem, literal_sources}
 use Rattle.body_forms.specs.declared.structs.FieldSource.{FieldSource as GivenSource}
 use Rattle.body_forms.specs.declared.form.Form.TheVariants as form
 use Rattle.body_forms.specs.declared.structs.StructLiteral.{StructLiteral}
 use Rattle.mir_lower.specs.Built.{IsBuilt}
 use Rattle.mir_lower.specs.Callees.{Serves}
-use Rattle.mir_lower.specs.Does.{Stands, here, elements_of, IsAt, IsFrameOf, Holds, Landings, LeadsTo, Reaches, Nothing, Fits, FitAll}
-use Rattle.mir_lower.specs.Graph.{Shape, IsProjected, never_of, temp_of, with_projections, with_statement, local_of}
+use Rattle.mir_lower.specs.Does.{Stands, here, IsAt, IsFrameOf, Holds, Landings, LeadsTo, Reaches, Nothing, Fits, FitAll}
+use Rattle.mir_graph.specs.Graph.{Shape, IsProjected, index_local, never_of, temp_of, with_projections, with_statement, local_of}
 use Rattle.mir_lower.specs.Growth.{Grows, Spares, IsSound, IsOpen, IsReady, count_at, statement_at, terminator_at}
 use Rattle.mir_lower.specs.Lowered.{LaysOut, LowersOwn, LowersOperands, LowersPlace}
 use Rattle.mir_lower.specs.Updates.{IsKnown, HasMore, IsAmong, Gives, GiveAll, AreFound}
@@ -55,16 +52,17 @@ use Rattle.mir_lower.proofs.Assignments.{keeps-none}
 use Rattle.mir_lower.proofs.Building.{built-node}
 use Rattle.mir_lower.proofs.Growing.{grows-trans, with_statement-grows}
 use Rattle.mir_lower.proofs.Laid.{alone, layouts-before, one-of, plain-part}
-use Rattle.mir_lower.proofs.Lists.{slice_get_below}
+use Rattle.mir_graph.proofs.Lists.{slice_get_below}
 use Rattle.mir_lower.proofs.Operations.{assignment}
-use Rattle.mir_lower.proofs.Projecting.{at-later, elements-later}
+use Rattle.mir_lower.proofs.Made.{FitFields, FitsOne, made-reaches, value-of}
+use Rattle.mir_lower.proofs.Projecting.{are-later, are-more, at-later, elements-later}
 use Rattle.mir_lower.proofs.Reaching.{comes-refl, reaches-then}
 use Rattle.mir_lower.proofs.Reading.{place-fits}
-use Rattle.mir_lower.proofs.Rvalues.{Agrees, kinds, struct-agrees}
+use Rattle.mir_lower.proofs.Rvalues.{kinds}
 use Rattle.mir_lower.proofs.Sound.{sound_by, with_statement-sound, with_statement-open, with_statement-scope}
 use Rattle.mir_lower.proofs.Sparing.{spares-same, spares-trans, with_statement-spares}
 use Rattle.mir_lower.proofs.Standing.{marking-fits}
-use Rattle.mir_lower.proofs.Steps.{local_of-grows, assigned-agreeing, does-form}
+use Rattle.mir_lower.proofs.Steps.{local_of-grows, does-form}
 
 -- a value of a unit struct takes no code
 pub lowers-unit : (source : Source) (s : Shape) (e : ℕ) (c : Cell) → IsReady source s e → node source e ≡ Some expr.UnitStruct → LowersOwn source s s e c
@@ -81,7 +79,7 @@ built-unit source e is = built-node source e (Some expr.UnitStruct) is tt (All-n
 -- Where a graph has more projections, all else stays.
 
 pub more-grows : (old new : Shape) → HasMore old new → Grows old new
-unfolding statement_at temp_of never_of
+unfolding statement_at temp_of never_of index_local
 more-grows old new more =
     subst (λ (s : Shape). Grows old s) (sym more.rest)
     (record {
@@ -91,6 +89,7 @@ more-grows old new more =
       bindings = refl;
       temps = λ e l h. h;
       nevers = λ e l h. h;
+      indices = λ e l h. h;
       projections = more.kept;
     })
 
@@ -135,13 +134,13 @@ has-id s interned place known = by_test (place.projection.0 == 0) refl known.are
     by_test false some h = slice_get_below s.projections place.projection.0 known.elements h
 
 pub known-at : (s : Shape) (place : GraphPlace) (at : Place) → IsAt s place at → IsKnown s place
-known-at s place at is = record { elements = elements_of at.projection; are = is.elements }
+known-at s place at is = record { elements = is.projection; are = is.elements }
 
 -- what gives a field in a graph gives it in one with more projections
 gives-later : (old new : Shape) (base : GraphPlace) (elements : Projection) (operands : List MirOperand) (from : FieldSource) (operand : MirOperand) → HasMore old new → Gives old base elements operands from operand → Gives new base elements operands from operand
 gives-later old new base elements operands (Written place) operand more gives = gives
 gives-later old new base elements operands (OfBase field) operand more gives =
-    (gives.0, gives.1, gives.2, elements-later old.projections new.projections more.kept gives.0.projection (elements ++ elem_of (FieldOf field) ∷ []) gives.3)
+    (gives.0, gives.1, gives.2, elements-later old.projections new.projections more.kept gives.0.projection (elements ++ field_elem field ∷ []) gives.3, gives.4)
 
 -- those so far, and one more
 give-more : (old new : Shape) (base : GraphPlace) (elements : Projection) (operands : List MirOperand) (sources : List FieldSource) (fields : List MirOperand) (from : FieldSource) (operand : MirOperand) → HasMore old new →
@@ -169,48 +168,31 @@ found-more s0 s1 s2 base operands sources fields from operand found last =
 pub found-written : (s : Shape) (base : GraphPlace) (operands : List MirOperand) (place : ℕ) (operand : MirOperand) → slice_get operands place ≡ Some operand → AreFound s s base operands (Written place ∷ []) (operand ∷ [])
 found-written s base operands place operand there = record { more = no-more s; give = λ elements are. (there, tt) }
 
-pub found-projected : (old new : Shape) (base made : GraphPlace) (operands : List MirOperand) (field : _) (operand : MirOperand) → operand.kind ≡ Copy made → IsProjected old new base (elem_of (FieldOf field)) made → AreFound old new base operands (OfBase field ∷ []) (operand ∷ [])
-found-projected old new base made operands field operand copies is =
-    record { more = more-projected old new base (elem_of (FieldOf field)) made is; give = λ elements are. ((made, copies, is.local, is.longer elements are), tt) }
+pub found-projected : (old new : Shape) (base made : GraphPlace) (operands : List MirOperand) (field : _) (operand : MirOperand) → operand.kind ≡ Copy made → operand.span ≡ None → IsProjected old new base (field_elem field) made → AreFound old new base operands (OfBase field ∷ []) (operand ∷ [])
+found-projected old new base made operands field operand copies spanless is =
+    record { more = more-projected old new base (field_elem field) made is; give = λ elements are. ((made, copies, is.local, is.longer elements are, spanless), tt) }
 
 -- What gives the fields in the graph are the operands that give them in the source.
 
--- the value of an operand
-record FitsOne (source : Source) (operand : OperandKind) (whole : Shape) (frame : Frame) (found : Option Operand) : Type 0 where
-  value : Operand
-  is : found ≡ Some value
-  fits : Fits source operand whole frame value
-
-value-of : (source : Source) (whole : Shape) (frame : Frame) (operands : List MirOperand) (values : List Operand) → FitAll source (kinds operands) whole frame values → (k : ℕ) (x : MirOperand) → slice_get operands k ≡ Some x → FitsOne source x.kind whole frame (slice_get values k)
-value-of source whole frame [] values fit k x at = absurd cc
-value-of source whole frame (one ∷ operands) [] fit k x at = absurd fit
-value-of source whole frame (one ∷ operands) (value ∷ values) fit zero x at =
-    let same : one ≡ x = cc in record { value = value; is = refl; fits = subst (λ (y : MirOperand). Fits source y.kind whole frame value) same fit.0 }
-value-of source whole frame (one ∷ operands) (value ∷ values) fit (suc k) x at = value-of source whole frame operands values fit.1 k x at
-
-pub record FitFields (source : Source) (fields : List MirOperand) (whole : Shape) (frame : Frame) (found : Option (List Operand)) : Type 0 where
-  pub chosen : List Operand
-  pub are : found ≡ Some chosen
-  pub fit : FitAll source (kinds fields) whole frame chosen
-
 module _ (source : Source) (s whole : Shape) (frame : Frame) (grows : Grows s whole) (sound : IsSound source whole) (frame-is : IsFrameOf whole frame) (world : frame.program.world ≡ source.world) (base : GraphPlace) (at : Place) (is : IsAt s base at) (operands : List MirOperand) (values : List Operand) (fit : FitAll source (kinds operands) whole frame values) where
-  field-fits : (from : FieldSource) (operand : MirOperand) → Gives s base (elements_of at.projection) operands from operand → FitsOne source operand.kind whole frame (field_operand at values from)
+  field-fits : (from : FieldSource) (operand : MirOperand) → Gives s base is.projection operands from operand → FitsOne source operand.kind whole frame (field_operand at values from)
   field-fits (Written place) operand gives = value-of source whole frame operands values fit place operand gives
   field-fits (OfBase field) operand gives =
       let there : IsAt s gives.0 (projected (FieldOf field) at) =
-      record { found = is.found ∙ ap (λ (local : LocalId). Some local.0) (sym gives.2); elements = gives.3 ∙ ap Some (sym (elements-append at.projection (FieldOf field))) } in
+      record {
+        found = is.found ∙ ap (λ (local : LocalId). Some local.0) (sym gives.2);
+        projection = is.projection ++ field_elem field ∷ [];
+        elements = gives.3;
+        same = are-more s at.projection is.projection (FieldOf field) (field_elem field) is.same refl;
+      } in
       record {
         value = At (projected (FieldOf field) at);
         is = refl;
         fits = subst (λ (k : OperandKind). Fits source k whole frame (At (projected (FieldOf field) at))) (sym gives.1)
             (place-fits source whole frame gives.0 (projected (FieldOf field) at) sound frame-is world (at-later s whole grows gives.0 (projected (FieldOf field) at) there));
       }
-    where
-      elements-append : (elems : List PlaceElem) (elem : PlaceElem) → elements_of (elems ++ elem ∷ []) ≡ elements_of elems ++ elem_of elem ∷ []
-      elements-append [] elem = refl
-      elements-append (first ∷ rest) elem = ap (λ others. elem_of first ∷ others) (elements-append rest elem)
 
-  pub fields-fit : (sources : List FieldSource) (fields : List MirOperand) → GiveAll s base (elements_of at.projection) operands sources fields → FitFields source fields whole frame (field_operands at values sources)
+  pub fields-fit : (sources : List FieldSource) (fields : List MirOperand) → GiveAll s base is.projection operands sources fields → FitFields source fields whole frame (field_operands at values sources)
   fields-fit [] [] give = record { chosen = []; are = no_field_operands at values; fit = tt }
   fields-fit [] (field ∷ fields) give = absurd give
   fields-fit (from ∷ sources) [] give = absurd give
@@ -276,20 +258,23 @@ lowers-update source s0 s1 s2 s3 new e base id args sources es place operands fi
           let grown1 : Grows s1 whole = grows-trans s1 s2 whole given.keeps.grows grown2 in
           let cell-found = local_of-grows s0 whole (grows-trans s0 s1 whole first.keeps.grows grown1) c to.0 local in
           let is2 : IsAt s2 place at = at-later s1 s2 given.keeps.grows place at first.does.is in
-          let is3 : IsAt s3 place at = at-later s2 s3 (more-grows s2 s3 found.more) place at is2 in
+          let is3 : IsAt s3 place at =
+          record {
+            found = local_of-grows s2 s3 (more-grows s2 s3 found.more) at.cell place.local.0 is2.found;
+            projection = is2.projection;
+            elements = elements-later s2.projections s3.projections found.more.kept place.projection is2.projection is2.elements;
+            same = are-later s2 s3 (more-grows s2 s3 found.more) at.projection is2.projection is2.same;
+          } in
           reaches-then source whole lands frame (here s0) (here s1) (here end) memory (LeadsTo at whole frame) (Nothing whole frame) ((below around).place base store) _
           (first.does.does.reaches whole frame grown1 sound frame-is lands around stands fuel serves store memory holds)
           (λ found-at store1 memory1 claims1.
-          subst (λ (p : Place). Reaches source whole lands frame (here s1) (here end) memory1 (Nothing whole frame) (then_do (operands_of source below around1 es store1) (λ vs later. put_answer later (record { cell = c }) (struct_of (layout_of source.world (type.Adt (adt.StructId id) args)) (option_and_then (values_of source later) (field_operands p vs sources)))))) (sym claims1.1)
+          subst (λ (p : Place). Reaches source whole lands frame (here s1) (here end) memory1 (Nothing whole frame) (then_do (operands_of source below around1 es store1) (λ vs later. made_into source id args (field_operands p vs sources) (record { cell = c }) later))) (sym claims1.1)
           (reaches-then source whole lands frame (here s1) (here s2) (here end) memory1 (FitAll source (kinds operands) whole frame) (Nothing whole frame) (operands_of source below around1 es store1) _
           (given.does.reaches whole frame grown2 sound frame-is lands around1 (marking-fits first.keeps around stands) fuel serves store1 memory1 claims1.0)
           (λ vs store2 memory2 claims2.
-          let fit = fields-fit source s3 whole frame grown3 sound frame-is serves.world place at is3 operands vs claims2.1 sources fields (found.give (elements_of at.projection) is2.elements) in
-          let agrees : Agrees (struct_of (layout_of source.world (type.Adt (adt.StructId id) args)) (values_of source store2 fit.chosen)) (rvalue_bytes frame memory2 rvalue-of) =
-          struct-agrees source whole frame id args fields fit.chosen store2 memory2 claims2.0 serves.world fit.fit in
-          subst (λ from. Reaches source whole lands frame from (here end) memory2 (Nothing whole frame) (put_answer store2 (record { cell = c }) (struct_of (layout_of source.world (type.Adt (adt.StructId id) args)) (option_and_then (values_of source store2) (field_operands at vs sources))))) (more-here s2 s3 found.more)
-          (subst (λ found-fields. Reaches source whole lands frame (here s3) (here end) memory2 (Nothing whole frame) (put_answer store2 (record { cell = c }) (struct_of (layout_of source.world (type.Adt (adt.StructId id) args)) (option_and_then (values_of source store2) found-fields)))) (sym fit.are)
-          (assigned-agreeing source s3 whole frame to rvalue-of span opened sound frame-is lands grows c cell-found store2 memory2 claims2.0 _ agrees)))))
+          let fit = fields-fit source s3 whole frame grown3 sound frame-is serves.world place at is3 operands vs claims2.1 sources fields (found.give is2.projection is2.elements) in
+          subst (λ from. Reaches source whole lands frame from (here end) memory2 (Nothing whole frame) (made_into source id args (field_operands at vs sources) (record { cell = c }) store2)) (more-here s2 s3 found.more)
+          (made-reaches source s3 whole frame to id args fields span opened sound frame-is serves.world lands grows c cell-found store2 memory2 claims2.0 (field_operands at vs sources) fit))))
 
 -- The form of a struct literal with a base.
 

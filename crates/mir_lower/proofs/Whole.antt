@@ -26,7 +26,7 @@ use Rattle.source_meaning.specs.Source.{Source, node_type, root, Cell, Result as
 use Rattle.source_meaning.specs.Valid.{IsPlain, IsLaidOut, AreLaidOut}
 use Rattle.mir_lower.specs.Callees.{AreCounted, AreLocalsOf, RunsOn, RunsAs, Serves, cost_once_placed, once_placed}
 use Rattle.mir_lower.specs.Does.{FrontAll, here, IsFrameOf, Holds, Nowhere, AtPoint, Landings, Goes, Reaches, Nothing, Stands}
-use Rattle.mir_lower.specs.Graph.{OpenTarget, Shape, no_statements, local_of, local_of_type, with_terminator, with_scope}
+use Rattle.mir_graph.specs.Graph.{OpenTarget, Shape, no_statements, local_of, local_of_type, with_terminator, with_scope}
 use Rattle.mir_lower.specs.Growth.{Grows, IsSound, IsUsed, count_at}
 use Rattle.mir_lower.specs.Leaving.{Idles}
 use Rattle.mir_lower.specs.Lowered.{HasLayouts, LowersInto}
@@ -38,7 +38,7 @@ use Rattle.mir_lower.proofs.Fitting.{unfit}
 use Rattle.mir_lower.proofs.Growing.{grows-refl, grows-trans, with_terminator-grows, with_scope-grows}
 use Rattle.mir_lower.proofs.Lacking.{entering-room, rooms-counted}
 use Rattle.mir_lower.proofs.Leaving.{enters-block, comes-return, here-scope}
-use Rattle.mir_lower.proofs.Lists.{front-of}
+use Rattle.mir_graph.proofs.Lists.{front-of}
 use Rattle.mir_lower.proofs.Placing.{AreAligned, Placing, places-all, first-ok}
 use Rattle.mir_lower.proofs.Reaching.{breaks-after, comes-on, comes-trans, enters-both, stops-after, stops-before}
 use Rattle.mir_lower.proofs.Parameters.{locals-carried}

@@ -1,15 +1,15 @@
 -- Where the code of a graph parts into two branches, and where these join. The blocks of all three are reserved before the
 -- first branch is lowered.
-use Rattle.std.specs.Prelude.{◌≡◌, ◌≢◌, ℕ, ◌≤◌, List, length, Some, slice_get}
+use Rattle.std.specs.Prelude.{◌≡◌, ◌≢◌, ℕ, ◌≤◌, true, List, length, Some, slice_get}
 use Rattle.mir.specs.declared.operand.OperandKind.{OperandKind}
-use Rattle.mir.specs.Memory.{Memory}
-use Rattle.mir.specs.Run.{Frame, operand_bytes}
+use Rattle.mir.specs.Memory.{Memory, number_held}
+use Rattle.mir.specs.Run.{Frame, operand_bytes, operand_out, out_of_bounds}
 use Rattle.numbers.specs.Bytes.{value_of}
 use Rattle.source_meaning.specs.Source.{Source}
 use Rattle.mir_lower.specs.Does.{here, IsFrameOf}
-use Rattle.mir_lower.specs.Graph.{Shape, no_statements}
+use Rattle.mir_graph.specs.Graph.{Shape, no_statements}
 use Rattle.mir_lower.specs.Growth.{Grows, Spares, IsSound, IsOpen}
-use Rattle.mir_lower.specs.Runs.{Entry, start_of, Comes}
+use Rattle.mir_lower.specs.Runs.{Entry, start_of, run_from, Comes, EndsAfter, IsFault}
 
 -- a block is there, is empty, and isn't the current one
 pub record IsReserved (s : Shape) (block : ℕ) : Type 0 where
@@ -17,7 +17,8 @@ pub record IsReserved (s : Shape) (block : ℕ) : Type 0 where
   pub apart : block ≢ s.current
 
 -- The current block was ended by a test of an operand. Where the operand's bytes are a number, the run goes on in the block
--- that is the current one now, else in a second one. That one, and a third where both branches will join, are reserved.
+-- that is the current one now, else in a second one. That one, and a third where both branches will join, are reserved. Where the operand is out of
+-- bounds, the run ends in a panic.
 pub record IsForked (source : Source) (old new : Shape) (operand : OperandKind) (number other join : ℕ) : Type 0 where
   pub grows : Grows old new
   pub spares : Spares old new
@@ -33,6 +34,8 @@ pub record IsForked (source : Source) (old new : Shape) (operand : OperandKind) 
       operand_bytes frame memory operand ≡ Some bytes → length bytes ≤ 16 → value_of bytes ≡ number → Comes frame 1 0 (here old) memory (here new) memory
   pub left : (whole : Shape) (frame : Frame) → Grows new whole → IsFrameOf whole frame → (memory : Memory) (bytes : List ℕ) →
       operand_bytes frame memory operand ≡ Some bytes → length bytes ≤ 16 → value_of bytes ≢ number → Comes frame 1 0 (here old) memory (start_of other) memory
+  pub out : (whole : Shape) (frame : Frame) → Grows new whole → IsFrameOf whole frame → (memory : Memory) →
+      operand_out frame.program.world frame.body (number_held memory frame.cells) operand ≡ true → EndsAfter 0 (IsFault out_of_bounds) (run_from frame memory (here old))
 
 -- The current block was ended and leads to a block without a test, and a block that was reserved is the current one now.
 pub record HasGoneOn (source : Source) (old new : Shape) (to next : ℕ) : Type 0 where

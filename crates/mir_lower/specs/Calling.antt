@@ -11,7 +11,7 @@ use Rattle.mir.specs.Memory.{Memory}
 use Rattle.mir.specs.Run.{Frame, Calling, calling, calls, going_on}
 use Rattle.source_meaning.specs.Source.{Source}
 use Rattle.mir_lower.specs.Does.{here, IsFrameOf}
-use Rattle.mir_lower.specs.Graph.{Shape}
+use Rattle.mir_graph.specs.Graph.{Shape}
 use Rattle.mir_lower.specs.Growth.{Grows, Spares, IsSound, IsOpen}
 use Rattle.mir_lower.specs.Runs.{start_of, run_from}
 

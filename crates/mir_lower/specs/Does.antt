@@ -1,20 +1,22 @@
 -- What the code of a graph does: from a point of it to another, or to the end of the run.
-use Rattle.std.specs.Prelude.{◌≡◌, ◌⊎◌, ℕ, List, ◌∷◌, [], map, Option, Some, unwrap_or}
+use Rattle.std.specs.Prelude.{◌≡◌, ◌⊎◌, ℕ, List, ◌∷◌, [], Option, Some, unwrap_or}
 use Rattle.mir.specs.Projections.{Projection}
 use Rattle.mir.specs.declared.operand.Place.{Place as GraphPlace}
 use Rattle.mir.specs.declared.operand.OperandKind.{OperandKind}
-use Rattle.mir.specs.Memory.{Memory}
-use Rattle.mir.specs.Run.{Frame, operand_bytes as mir_bytes, operand_type as mir_type}
-use Rattle.source_meaning.specs.Around.{Around, Target}
-use Rattle.source_meaning.specs.Core.{Assigned, Assignee, PlaceElem}
+use Rattle.mir.specs.declared.projection.ProjectionElem.TheVariants.{Index}
+use Rattle.mir.specs.Elements.{PlaceElem as GraphElem}
+use Rattle.mir.specs.Memory.{Memory, number_held}
+use Rattle.mir.specs.Run.{Frame, operand_bytes as mir_bytes, operand_out as mir_out, operand_type as mir_type}
+use Rattle.source_meaning.specs.Around.{Around, Target, marking}
+use Rattle.source_meaning.specs.Core.{Assigned, Assignee, ElementAt, FieldOf, Part, PlaceElem}
 use Rattle.source_meaning.specs.Ends.{Cost, cost_of, End, Go, Jumps, Faults, Stuck, More, Jump, Break, Continue, Return}
-use Rattle.source_meaning.specs.Meaning.{level_at, operands_of, assigned_place, assignee_place, copy_at, field_place, statements_of, tail_into, bind}
-use Rattle.source_meaning.specs.Places.{operand_bytes, operand_type, place_bytes}
-use Rattle.source_meaning.specs.Source.{Source, pattern, Cell, Result, Place, Store, Operand}
+use Rattle.source_meaning.specs.Meaning.{level_at, operands_of, assign_at, assigned_place, assignee_place, field_place, statements_of, tail_into, bind}
+use Rattle.source_meaning.specs.Places.{operand_bytes, operand_out, operand_type}
+use Rattle.source_meaning.specs.Source.{Source, pattern, Cell, IndexOf, Result, Place, Store, Operand}
 use Rattle.world.specs.declared.body.Statement.{Statement}
 use Rattle.types.specs.declared.ids.ExprId.{ExprId}
-use Rattle.body_forms.specs.Form.{elem_of}
-use Rattle.mir_lower.specs.Graph.{Shape, OpenTarget, elements_in, local_of}
+use Rattle.body_forms.specs.Form.{field_elem, part_elem}
+use Rattle.mir_graph.specs.Graph.{Shape, OpenTarget, elements_in, local_of}
 use Rattle.mir_lower.specs.Growth.{Grows, IsSound, count_at}
 use Rattle.mir_lower.specs.Callees.{Serves}
 use Rattle.mir_lower.specs.Stops.{StopsFrom}
@@ -101,22 +103,33 @@ pub record Performs (source : Source) (old new : Shape) {A : Type 0} (claim : Sh
 abbrev pub Nothing : Shape → Frame → Unit {0} → Type 0
 Nothing whole frame done = Unit {0}
 
--- the elements of a place of the source, as the graph has them
-abbrev pub elements_of : List PlaceElem → Projection
-elements_of elems = map elem_of elems
+-- an element of a place of the source is one of the graph: a part or a field is the same one, and an index is that of the local which holds it
+abbrev pub IsElement : Shape → PlaceElem → GraphElem → Type 0
+IsElement s (Part index) one = one ≡ part_elem index
+IsElement s (FieldOf field) one = one ≡ field_elem field
+IsElement s (ElementAt e index) one = (local : ℕ) × (local_of s (IndexOf e) ≡ Some local) × (one ≡ Index (record { 0 = local }))
+
+-- elements of a place of the source are those of the graph, one each
+abbrev pub AreElements : Shape → List PlaceElem → Projection → Type 0
+AreElements s [] [] = Unit {0}
+AreElements s (elem ∷ elems) (one ∷ others) = IsElement s elem one × AreElements s elems others
+AreElements s _ _ = ⊥
 
 -- a place of the graph is one of the source: its local holds the cell's value, and the same elements lead on from there
 pub record IsAt (s : Shape) (place : GraphPlace) (at : Place) : Type 0 where
   pub found : local_of s at.cell ≡ Some place.local.0
-  pub elements : elements_in s.projections place.projection ≡ Some (elements_of at.projection)
+  pub projection : Projection
+  pub elements : elements_in s.projections place.projection ≡ Some projection
+  pub same : AreElements s at.projection projection
 
 -- the meaning gives this place
 abbrev pub LeadsTo : Place → Shape → Frame → Place → Type 0
 LeadsTo at whole frame place = place ≡ at
 
--- an operand of the graph has the bytes of the source's operand whenever store and memory agree, and its type
+-- an operand of the graph has the bytes of the source's operand whenever store and memory agree, and is out of bounds just where that is; and it has its type
 pub record Fits (source : Source) (operand : OperandKind) (whole : Shape) (frame : Frame) (value : Operand) : Type 0 where
   pub bytes : (store : Store) (memory : Memory) → Holds whole frame store memory → mir_bytes frame memory operand ≡ operand_bytes source store value
+  pub out : (store : Store) (memory : Memory) → Holds whole frame store memory → mir_out frame.program.world frame.body (number_held memory frame.cells) operand ≡ operand_out source store value
   pub ty : mir_type frame.program.world frame.body operand ≡ operand_type source value
 
 -- operands of the graph have the bytes and types of the source's, one each
@@ -151,9 +164,14 @@ pub record Finds (source : Source) (old new : Shape) (place : GraphPlace) (meani
 abbrev pub DoesPlace : Source → Shape → Shape → ℕ → GraphPlace → Type 0
 DoesPlace source old new e place = Finds source old new place (λ around fuel store. (level_at source fuel around).place e store)
 
--- or the place of a field, by that of its base
+-- or the index of an index expression, into its own cell, which is in use then
+abbrev pub DoesIndex : Source → Shape → Shape → (e index : ℕ) → Type 0
+DoesIndex source old new e index =
+    Performs source old new Nothing (λ around fuel store. (level_at source fuel (marking (IndexOf e ∷ []) around)).into index (record { cell = IndexOf e }) store)
+
+-- or the place of a field or an element, by that of its base
 abbrev pub DoesField : Source → Shape → Shape → (base : ℕ) → (elem : PlaceElem) → GraphPlace → Type 0
-DoesField source old new base elem place = Finds source old new place (λ around fuel store. field_place (level_at source fuel around) base elem store)
+DoesField source old new base elem place = Finds source old new place (λ around fuel store. field_place source (level_at source fuel) around base elem store)
 
 -- the code runs statements, evaluates a tail, or binds a pattern to a place's value
 abbrev pub DoesStatements : Source → Shape → Shape → List Statement → Type 0
@@ -170,8 +188,8 @@ abbrev pub DoesAssignee : Source → Shape → Shape → Assignee → GraphPlace
 DoesAssignee source old new to place = Finds source old new place (λ around fuel store. assignee_place source (level_at source fuel around) to store)
 
 abbrev pub DoesAssigned : Source → Shape → Shape → Assigned → GraphPlace → Type 0
-DoesAssigned source old new to place = Finds source old new place (λ around fuel store. assigned_place source (level_at source fuel around) to store)
+DoesAssigned source old new to place = Finds source old new place (λ around fuel store. assigned_place source (level_at source fuel) around to store)
 
 -- the code copies the bytes of one place to another
 abbrev pub DoesAssign : Source → Shape → Shape → (to from : Place) → Type 0
-DoesAssign source old new to from = Performs source old new Nothing (λ around fuel store. copy_at source store to (place_bytes source store from))
+DoesAssign source old new to from = Performs source old new Nothing (λ around fuel store. assign_at source to from store)

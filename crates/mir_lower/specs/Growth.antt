@@ -8,11 +8,11 @@ use Rattle.mir.specs.declared.statement.Statement.{Statement}
 use Rattle.mir.specs.Projections.{Projection, projection_of}
 use Rattle.types.specs.declared.ty.Ty.{Ty}
 use Rattle.world.specs.Checked.{IsCheckedBody}
-use Rattle.source_meaning.specs.Core.{is_place}
-use Rattle.source_meaning.specs.Source.{Source, Cell, Result, Node, Binding, cell_type, binding_type, node, root, Never, unadjusted, diverges}
+use Rattle.source_meaning.specs.Core.{ElementAt, PlaceElem, is_place}
+use Rattle.source_meaning.specs.Source.{Source, Cell, Result, Node, Binding, IndexOf, cell_type, binding_type, node, root, index_of, Never, unadjusted, diverges}
 use Rattle.source_meaning.specs.Around.{Opened}
 use Rattle.source_meaning.specs.Valid.{Evaluates, EvaluatesIn, opened_in}
-use Rattle.mir_lower.specs.Graph.{Shape, OpenTarget, no_statements, temp_of, binding_local, local_of, opened_of, never_of}
+use Rattle.mir_graph.specs.Graph.{Shape, OpenTarget, no_statements, temp_of, binding_local, local_of, opened_of, never_of, index_local}
 use Rattle.mir_lower.specs.Order.{first_locals}
 
 -- the statement at a place of a block, and a block's terminator
@@ -35,6 +35,7 @@ pub record Grows (old new : Shape) : Type 0 where
   pub bindings : new.bindings ≡ old.bindings
   pub temps : (e local : ℕ) → temp_of old e ≡ Some local → temp_of new e ≡ Some local
   pub nevers : (e local : ℕ) → never_of old e ≡ Some local → never_of new e ≡ Some local
+  pub indices : (e local : ℕ) → index_local old e ≡ Some local → index_local new e ≡ Some local
   pub projections : (id : ProjectionId) (elements : Projection) → projection_of old.projections id ≡ Some elements → projection_of new.projections id ≡ Some elements
 
 -- Of the blocks that stood there none is touched but the current one, the current block is the same or a new one, and the same
@@ -45,20 +46,28 @@ pub record Spares (old new : Shape) : Type 0 where
   pub many : length old.blocks ≤ length new.blocks
   pub targets : new.targets ≡ old.targets
 
--- a cell that an evaluation may use: the result, a binding, an expression that is evaluated, or the `!` of one
+-- an expression has an index, which is evaluated
+pub record HasEvaluatedIndex (source : Source) (e index : ℕ) : Type 0 where
+  pub has : index_of source e ≡ Some index
+  pub within : e < length source.body.exprs
+  pub evaluated : Evaluates source (root source) index
+
+-- a cell that an evaluation may use: the result, a binding, an expression that is evaluated, the `!` of one, or the index of one that stands in the body
 abbrev pub IsUsed : Source → Cell → Type 0
 IsUsed source Result = Unit {0}
 IsUsed source (Node e) = Evaluates source (root source) e
 IsUsed source (Binding b) = Unit {0}
 IsUsed source (Never e) = Evaluates source (root source) e
+IsUsed source (IndexOf e) = (index : ℕ) × HasEvaluatedIndex source e index
 
 -- a cell that is given a local: the result, a binding, an expression that is evaluated, is no place and isn't the body's
--- root, whose value goes to the result, or the `!` of an expression that is evaluated
+-- root, whose value goes to the result, the `!` of an expression that is evaluated, or an index that is
 abbrev pub IsStored : Source → Cell → Type 0
 IsStored source Result = Unit {0}
 IsStored source (Node e) = Evaluates source (root source) e × (is_place (unadjusted source e) ≡ false) × (e < root source)
 IsStored source (Binding b) = Unit {0}
 IsStored source (Never e) = Evaluates source (root source) e × (diverges source e ≡ true) × (e < length source.body.exprs)
+IsStored source (IndexOf e) = (index : ℕ) × HasEvaluatedIndex source e index
 
 -- The locals of cells: each has its cell's type, no two cells share one, and each local of the graph is that of a cell.
 pub record IsAllotted (source : Source) (s : Shape) : Type 0 where
@@ -85,6 +94,11 @@ pub record IsSound (source : Source) (s : Shape) : Type 0 where
   pub nodes : length s.temps ≡ length source.body.exprs
   pub bound : (b : ℕ) (ty : Ty) → binding_type source b ≡ Some ty → (l : ℕ) × (binding_local s b ≡ Some l)
   pub allotted : IsAllotted source s
+
+-- the step to an element has the index of the index expression that it is taken by
+abbrev pub HasIndex : Source → PlaceElem → Type 0
+HasIndex source (ElementAt e index) = index_of source e ≡ Some index
+HasIndex source _ = Unit {0}
 
 -- the current block is there, and has no terminator yet
 pub record IsOpen (s : Shape) : Type 0 where

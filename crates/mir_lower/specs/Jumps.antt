@@ -9,7 +9,7 @@ use Rattle.types.specs.declared.ids.LabelId.{LabelId}
 use Rattle.mir_lower.specs.Branches.{IsReserved}
 use Rattle.mir_lower.specs.Does.{here, IsFrameOf}
 use Rattle.mir_lower.specs.Runs.{Entry, Exit, start_of, Comes}
-use Rattle.mir_lower.specs.Graph.{Shape, OpenTarget, with_targets}
+use Rattle.mir_graph.specs.Graph.{Shape, OpenTarget, with_targets}
 use Rattle.mir_lower.specs.Growth.{Grows, Spares, IsSound, IsOpen}
 
 -- A loop or a labelled block was entered: the current block leads to the one where it begins, which is the current one now, and

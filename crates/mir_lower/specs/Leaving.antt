@@ -4,7 +4,7 @@ use Rattle.mir.specs.Memory.{Memory}
 use Rattle.mir.specs.Run.{Frame}
 use Rattle.source_meaning.specs.Source.{Source}
 use Rattle.mir_lower.specs.Does.{here, IsFrameOf}
-use Rattle.mir_lower.specs.Graph.{Shape}
+use Rattle.mir_graph.specs.Graph.{Shape}
 use Rattle.mir_lower.specs.Growth.{Grows, Spares, IsSound, IsOpen}
 use Rattle.mir_lower.specs.Runs.{Comes}
 

@@ -1,5 +1,4 @@
 pub mod Does
-pub mod Graph
 pub mod Jumps
 pub mod Growth
 pub mod Leaving

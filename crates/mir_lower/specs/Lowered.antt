@@ -9,17 +9,17 @@ use Rattle.world.specs.declared.body.Statement.{Statement}
 use Rattle.types.specs.declared.ids.BindingId.{BindingId}
 use Rattle.types.specs.declared.ids.ExprId.{ExprId}
 use Rattle.world.specs.declared.infer.ValueNs.TheVariants.{LocalBinding}
-use Rattle.source_meaning.specs.Events.{marked, marked_itself, marked_as_place, marked_as_operand, marked_by_assigned, marked_by_assignee, marked_by_statement, marked_by_tail}
-use Rattle.source_meaning.specs.Source.{Source, Cell, Place, node, unadjusted, own_type, node_type, named_by, pattern, target, compound_target, bound_by}
-use Rattle.source_meaning.specs.Steps.{assigned_parts, assignee_parts, statement_parts}
+use Rattle.source_meaning.specs.Events.{marked, marked_itself, marked_as_place, marked_as_operand, marked_by_assigned, marked_by_assignee, marked_by_elem, marked_by_statement, marked_by_tail}
+use Rattle.source_meaning.specs.Source.{Source, Cell, IndexOf, Place, node, unadjusted, own_type, node_type, named_by, pattern, target, compound_target, bound_by}
+use Rattle.source_meaning.specs.Steps.{assigned_parts, assignee_parts, field_parts, statement_parts}
 use Rattle.source_meaning.specs.Aggregates.{HasAggregates}
 use Rattle.source_meaning.specs.Around.{Opened}
 use Rattle.source_meaning.specs.Valid.{IsPlainFrom, JumpsFit, IsLaidOut, NeedsLayout, IsLaidOutNode}
-use Rattle.mir_lower.specs.Graph.{Shape, binding_local, local_of}
+use Rattle.mir_graph.specs.Graph.{Shape, binding_local, local_of}
 use Rattle.mir_lower.specs.Growth.{Grows, Spares, IsSound, IsOpen}
 use Rattle.mir.specs.Memory.{Memory}
 use Rattle.mir.specs.Run.{Frame}
-use Rattle.mir_lower.specs.Does.{here, IsFrameOf, Does, DoesOwn, DoesOperand, DoesOperands, DoesPlace, DoesField, DoesStatements, DoesTail, DoesBind, DoesAssign, DoesAssigned, DoesAssignee}
+use Rattle.mir_lower.specs.Does.{here, IsFrameOf, Does, DoesOwn, DoesOperand, DoesOperands, DoesIndex, DoesPlace, DoesField, DoesStatements, DoesTail, DoesBind, DoesAssign, DoesAssigned, DoesAssignee}
 use Rattle.mir_lower.specs.Runs.{Comes}
 
 -- the graph is as sound as before, has what it had, and these cells more came into use in the innermost open scope
@@ -65,11 +65,18 @@ pub record LowersPlace (source : Source) (old new : Shape) (e : ℕ) (place : Gr
   pub does : DoesPlace source old new e place
   pub laid : LaysOut source new e
 
--- the place of a field was lowered, by that of its base; only what the base marks is marked
+-- the index of an index expression was lowered into a local of its own
+pub record LowersIndex (source : Source) (old new : Shape) (e index local : ℕ) : Type 0 where
+  pub keeps : Keeps source old new (IndexOf e ∷ marked source index)
+  pub found : local_of new (IndexOf e) ≡ Some local
+  pub does : DoesIndex source old new e index
+  pub laid : LaysOut source new index
+
+-- the place of a field or an element was lowered, by that of its base; only what the base and the step mark is marked
 pub record LowersField (source : Source) (old new : Shape) (base : ℕ) (elem : PlaceElem) (place : GraphPlace) : Type 0 where
-  pub keeps : Keeps source old new (marked_as_place source base)
+  pub keeps : Keeps source old new (marked_as_place source base ++ marked_by_elem source elem)
   pub does : DoesField source old new base elem place
-  pub laid : LaysOut source new base
+  pub laid : (child : ℕ) → Contains (field_parts base elem) child → LaysOut source new child
 
 -- an expression was lowered to an operand
 pub record LowersOperand (source : Source) (old new : Shape) (e : ℕ) (operand : OperandKind) : Type 0 where

@@ -3,7 +3,7 @@ use Rattle.std.specs.Prelude.{◌≡◌, ℕ, zero, suc, List, [], ◌∷◌, �
 use Rattle.types.specs.declared.ty.Ty.{Ty}
 use Rattle.mir.specs.declared.body.Local.{Local}
 use Rattle.source_meaning.specs.Source.{Source, binding_type, node_type, root}
-use Rattle.mir_lower.specs.Graph.{local_of_type}
+use Rattle.mir_graph.specs.Graph.{local_of_type}
 
 -- a local of a type, where there is one
 abbrev pub local_if_any : Option Ty → List Local

@@ -4,7 +4,7 @@ use Rattle.mir.specs.declared.ids.LocalId.{LocalId}
 use Rattle.source_meaning.specs.Calls.{parameters, parameter_cells}
 use Rattle.source_meaning.specs.Source.{Source, Binding}
 use Rattle.mir_lower.specs.Callees.{AreLocalsOf}
-use Rattle.mir_lower.specs.Graph.{Shape, local_of, with_scope}
+use Rattle.mir_graph.specs.Graph.{Shape, local_of, with_scope}
 
 -- bindings were marked as in use in the innermost open scope, in order, and these are their locals
 pub record MarksBindings (old new : Shape) (bound : List ℕ) (locals : List LocalId) : Type 0 where

@@ -53,8 +53,8 @@ are_some_dropped source locals = list_any (λ local. not (is_copy source.infer l
 abbrev pub needs_drops : Source → List Local → Bool
 needs_drops source locals = is_some source.world.drop_fn && are_some_dropped source locals
 
--- The world has a drop function, and the result, a binding, the value of an expression that is evaluated or its `!` may need
--- it: its type isn't listed as `Copy`.
+-- The world has a drop function, and the result, a binding, the value of an expression that is evaluated, its `!` or its index may
+-- need it: its type isn't listed as `Copy`.
 pub record HasDrops (source : Source) : Type 0 where
   pub drop_fn : is_some source.world.drop_fn ≡ true
   pub cell : Cell

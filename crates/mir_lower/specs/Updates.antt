@@ -1,14 +1,13 @@
 -- The operands of a struct literal with a base, and how the graph grows where they are found.
-use Rattle.std.specs.Prelude.{◌≡◌, ◌<◌, List, [], ◌∷◌, ◌++◌, length, slice_get, Some}
+use Rattle.std.specs.Prelude.{◌≡◌, ◌<◌, List, [], ◌∷◌, ◌++◌, length, slice_get, Some, None}
 use Rattle.mir.specs.Projections.{Projection, projection_of}
 use Rattle.mir.specs.declared.operand.Operand.{Operand}
 use Rattle.mir.specs.declared.operand.OperandKind.TheVariants.{Copy}
 use Rattle.mir.specs.declared.operand.Place.{Place}
 use Rattle.mir.specs.declared.projection.ProjectionId.{ProjectionId}
-use Rattle.source_meaning.specs.Core.{FieldOf}
 use Rattle.source_meaning.specs.Structs.{FieldSource, Written, OfBase}
-use Rattle.body_forms.specs.Form.{elem_of}
-use Rattle.mir_lower.specs.Graph.{Shape, elements_in, with_projections}
+use Rattle.body_forms.specs.Form.{field_elem}
+use Rattle.mir_graph.specs.Graph.{Shape, elements_in, with_projections}
 
 -- the graph has the projection of a place
 pub record IsKnown (s : Shape) (place : Place) : Type 0 where
@@ -25,11 +24,11 @@ abbrev pub IsAmong : List Operand → FieldSource → Type 0
 IsAmong operands (Written place) = place < length operands
 IsAmong operands (OfBase field) = Unit {0}
 
--- an operand of the graph gives a field: the one that is written for it, or a copy of the field of the base
+-- an operand of the graph gives a field: the one that is written for it, or a copy of the field of the base, which has no span
 abbrev pub Gives : (s : Shape) → (base : Place) → (elements : Projection) → List Operand → FieldSource → Operand → Type 0
 Gives s base elements operands (Written place) operand = slice_get operands place ≡ Some operand
 Gives s base elements operands (OfBase field) operand =
-    (made : Place) × (operand.kind ≡ Copy made) × (made.local ≡ base.local) × (elements_in s.projections made.projection ≡ Some (elements ++ elem_of (FieldOf field) ∷ []))
+    (made : Place) × (operand.kind ≡ Copy made) × (made.local ≡ base.local) × (elements_in s.projections made.projection ≡ Some (elements ++ field_elem field ∷ [])) × (operand.span ≡ None)
 
 -- operands give fields, one each
 abbrev pub GiveAll : (s : Shape) → (base : Place) → (elements : Projection) → List Operand → List FieldSource → List Operand → Type 0

@@ -5,14 +5,14 @@ ghost use Rattle.mir.specs.declared.errors.MirLowerError.TheVariants as refusal;
 ghost use Rattle.source_meaning.specs.Source.{Source};
 ghost use Rattle.mir_lower.specs.Branches.{IsReserved, IsForked, HasGoneOn};
 ghost use Rattle.body_forms.specs.Contexts.{source_of};
-ghost use Rattle.mir_lower.specs.Graph.{shape};
+ghost use Rattle.mir_graph.specs.Graph.{shape};
 ghost use Rattle.mir_lower.specs.Growth.{IsSound, IsOpen};
 
-use crate::graph::Graph;
 use body_forms::Context;
 use mir::{
     BasicBlockId, MirLowerError, MirSpan, Operand, SwitchTargets, Terminator, TerminatorKind,
 };
+use mir_graph::Graph;
 use world::ExprId;
 
 /// The reserved blocks of code that parts: where the second branch begins, and where both join.

@@ -5,12 +5,12 @@ ghost use Rattle.source_meaning.specs.Calls.{must_not_return};
 ghost use Rattle.body_forms.specs.Contexts.{source_of};
 ghost use Rattle.mir_lower.specs.Calling.{call_terminator, target_of_call};
 ghost use Rattle.mir.specs.WholePlaces.{whole_place};
-ghost use Rattle.mir_lower.specs.Graph.{shape, with_block, with_terminator};
+ghost use Rattle.mir_graph.specs.Graph.{shape, with_block, with_terminator};
 ghost use Rattle.mir_lower.specs.Growth.{IsOpen};
 
-use crate::graph::Graph;
 use body_forms::{Context, must_not_return};
 use mir::{BasicBlockId, LocalId, MirSpan, Operand, Place, Terminator, TerminatorKind};
+use mir_graph::Graph;
 use std::alloc::Global;
 use world::{ExprId, List, NoMemory};
 

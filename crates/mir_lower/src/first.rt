@@ -4,11 +4,11 @@ ghost use Rattle.std.specs.Prelude.{◌≡◌, length, IfOk, OnOk};
 ghost use Rattle.world.specs.Checked.{IsCheckedBody};
 ghost use Rattle.source_meaning.specs.Source.{binding_type};
 ghost use Rattle.body_forms.specs.Contexts.{source_of};
-ghost use Rattle.mir_lower.specs.Graph.{shape, with_binding};
+ghost use Rattle.mir_graph.specs.Graph.{shape, with_binding};
 ghost use Rattle.mir_lower.specs.Growth.{IsFirst};
 
-use crate::graph::Graph;
 use body_forms::{Context, binding_ty, node_ty};
+use mir_graph::Graph;
 use world::{NoMemory, TryClone};
 
 /// Adds the binding at a place of the body's list: a local of its type, where no closure owns it.

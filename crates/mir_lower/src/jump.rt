@@ -4,15 +4,15 @@ ghost use Rattle.std.specs.Prelude.{◌≡◌, drop, IfOk, IfErr, OnOk, Some, No
 ghost use Rattle.source_meaning.specs.Source.{Source, drops};
 ghost use Rattle.mir_lower.specs.Branches.{IsReserved, HasGoneOn};
 ghost use Rattle.body_forms.specs.Contexts.{source_of};
-ghost use Rattle.mir_lower.specs.Graph.{OpenTarget, shape, target_of_blocks, meant_target, with_targets};
+ghost use Rattle.mir_graph.specs.Graph.{OpenTarget, shape, target_of_blocks, meant_target, with_targets};
 ghost use Rattle.mir_lower.specs.Growth.{IsSound, IsOpen};
 ghost use Rattle.mir_lower.specs.Jumps.{IsEntered, HasJumped, HasReturned, without_target};
 
 use crate::branch::go_on;
-use crate::graph::{DropScopeToken, Graph, LoopBlocks};
 use crate::leave::leave_marked;
 use body_forms::Context;
 use mir::{BasicBlockId, LocalId, MirLowerError, MirSpan, Terminator, TerminatorKind};
+use mir_graph::{DropScopeToken, Graph, LoopBlocks};
 use world::{ExprId, LabelId, NoMemory};
 
 /// Enters a loop or a labelled block: the current block leads to the one where it begins, which is opened. The block behind it

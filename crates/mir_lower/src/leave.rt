@@ -4,20 +4,30 @@ ghost use Rattle.std.specs.Prelude.{◌≡◌, ◌≤◌, length, take, drop, On
 ghost use Rattle.mir.specs.declared.statement.StatementKind.TheVariants.{StorageDead};
 ghost use Rattle.mir.specs.declared.body.TerminatorKind.TheVariants.{Drop as Dropping};
 ghost use Rattle.std.specs.Option.{option_copied};
-ghost use Rattle.source_meaning.specs.Source.{cell_type, is_dropped, drops};
+ghost use Rattle.source_meaning.specs.Source.{IndexOf, cell_type, is_dropped, drops};
 ghost use Rattle.body_forms.specs.Contexts.{source_of};
 ghost use Rattle.mir.specs.WholePlaces.{whole_place};
-ghost use Rattle.mir_lower.specs.Graph.{shape, with_statement, with_block, with_terminator, with_scope, cell_of};
+ghost use Rattle.mir_graph.specs.Graph.{shape, with_statement, with_block, with_terminator, with_scope, cell_of};
 ghost use Rattle.mir_lower.specs.Growth.{IsSound, IsOpen};
 ghost use Rattle.mir_lower.specs.Leaving.{Idles, one_if};
 
-use crate::graph::{DropScopeToken, Graph, Held, Marked};
 use body_forms::{Context, binding_ty, is_copy, never_type, value_type};
 use mir::{
     BasicBlockId, LocalId, MirSpan, Place, Statement, StatementKind, Terminator, TerminatorKind,
 };
+use mir_graph::{DropScopeToken, Graph, Held, Marked};
 use std::alloc::Global;
-use world::{ExprId, NoMemory, Ty};
+use world::{Expr, ExprId, NoMemory, Ty};
+
+/// The type of an expression's index, where it is an index expression.
+fn index_type<'a>(context: &Context<'a>, e: ExprId) -> Option<&'a Ty>
+    ensures { option_copied result ≡ cell_type (source_of context.now) (IndexOf e.0) }
+{
+    match context.body.exprs.get(e.0 as u64) {
+        Some(Expr::Index { index, .. }) => value_type(context, *index),
+        _ => None,
+    }
+}
 
 /// The type of what a local holds.
 fn held_type<'a>(context: &Context<'a>, held: Held) -> Option<&'a Ty>
@@ -27,6 +37,7 @@ fn held_type<'a>(context: &Context<'a>, held: Held) -> Option<&'a Ty>
         Held::Expr(e) => value_type(context, e),
         Held::Binding(binding) => binding_ty(context, binding.0 as u64),
         Held::Never(e) => never_type(context, e),
+        Held::Index(e) => index_type(context, e),
     }
 }
 

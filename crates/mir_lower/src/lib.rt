@@ -5,7 +5,6 @@ mod body;
 mod branch;
 mod call;
 mod first;
-mod graph;
 mod jump;
 mod leave;
 mod locals;

@@ -3,27 +3,28 @@
 ghost use Rattle.std.specs.Prelude.{◌≡◌, ◌⊎◌, true, false, IfOk, IfErr, IfSome, OnOk, Some};
 ghost use Rattle.mir.specs.declared.errors.MirLowerError.TheVariants as refusal;
 ghost use Rattle.mir.specs.declared.statement.StatementKind.TheVariants.{Assign, FakeRead};
-ghost use Rattle.source_meaning.specs.Source.{Place as SourcePlace, Node, Binding, Never, node, unadjusted, diverges};
+ghost use Rattle.source_meaning.specs.Source.{Place as SourcePlace, IndexOf, Node, Binding, Never, node, unadjusted, diverges};
+ghost use Rattle.world.specs.Checked.{IsCheckedBody};
 ghost use Rattle.source_meaning.specs.Core as expr;
 ghost use Rattle.source_meaning.specs.Core.{is_place, local_named};
 ghost use Rattle.world.specs.declared.infer.ValueNs.TheVariants.{LocalBinding};
 ghost use Rattle.body_forms.specs.Contexts.{source_of};
 ghost use Rattle.mir.specs.WholePlaces.{whole_place};
-ghost use Rattle.mir_lower.specs.Graph.{shape, with_statement, local_of};
+ghost use Rattle.mir_graph.specs.Graph.{shape, with_statement, local_of};
 ghost use Rattle.mir_lower.specs.Does.{IsAt};
-ghost use Rattle.mir_lower.specs.Growth.{IsSound, IsOpen, IsReady, IsReadyPart};
+ghost use Rattle.mir_lower.specs.Growth.{HasEvaluatedIndex, IsSound, IsOpen, IsReady, IsReadyPart};
 ghost use Rattle.mir_lower.specs.Lowered.{IsGiven, IsNamed, Binds, IsCombinedIn, IsTargeted};
 ghost use Rattle.source_meaning.specs.Built.{AssignsBinding, BindsBinding, CombinesBinding, NamesBinding};
 ghost use Rattle.mir_lower.specs.Refusals.{RefusesCombined, RefusesPattern, RefusesTarget};
 ghost use Rattle.body_forms.specs.Refusals.{RefusesNode};
 
-use crate::graph::{Graph, Held};
 use body_forms::{
     Context, compound_path, form_not_built, name_bound, node_ty, own_ty, target_path,
 };
 use mir::{
     LocalId, MirLowerError, MirSpan, Operand, OperandKind, Place, Rvalue, Statement, StatementKind,
 };
+use mir_graph::{Graph, Held};
 use world::{BindingId, ExprId, PatId, Text, TryClone, ValueNs};
 
 /// Adds an assignment to a place.
@@ -158,6 +159,29 @@ pub(crate) fn new_never(
 {
     let ty = own_ty(context, e).try_clone(context.alloc)?;
     let local = graph.never_for(e, ty)?;
+    graph.push_statement(Statement {
+        kind: StatementKind::StorageLive(local),
+        span: MirSpan::ExprId(e),
+    })?;
+    Ok(local)
+}
+
+/// Adds `StorageLive` of a local for the index of an index expression, in the innermost open scope.
+pub(crate) fn new_index(
+    context: &Context<'_>,
+    graph: &mut Graph,
+    e: ExprId,
+    index: ExprId,
+) -> Result<LocalId, MirLowerError>
+    requires checked { IsCheckedBody context.now.body.now context.now.infer.now }
+    requires sound { IsSound (source_of context.now) (shape graph.old) }
+    requires opened { IsOpen (shape graph.old) }
+    requires index { HasEvaluatedIndex (source_of context.now) e.0 index.0 }
+    ensures given { IfOk result (λ local. IsGiven (source_of context.now) (shape graph.old) (shape graph.new) (IndexOf e.0) local.0) }
+    ensures refused { IfErr result (λ error. error ≡ refusal.NoMemory) }
+{
+    let ty = node_ty(context, index).try_clone(context.alloc)?;
+    let local = graph.index_for(e, ty)?;
     graph.push_statement(Statement {
         kind: StatementKind::StorageLive(local),
         span: MirSpan::ExprId(e),

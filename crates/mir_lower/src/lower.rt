@@ -4,20 +4,20 @@ ghost use Rattle.std.specs.Prelude.{◌≡◌, ◌<◌, ◌∷◌, ℕ, false, l
 ghost use Rattle.mir.specs.declared.errors.MirLowerError.TheVariants as refusal;
 ghost use Rattle.numbers.specs.declared.operator.Operator.{Operator};
 ghost use Rattle.world.specs.Checked.{IsCheckedBody};
-ghost use Rattle.source_meaning.specs.Source.{Cell, node, unadjusted};
+ghost use Rattle.source_meaning.specs.Source.{Cell, index_of, node, unadjusted};
 ghost use Rattle.source_meaning.specs.Core.{Combine, is_place};
 ghost use Rattle.source_meaning.specs.Core as expr;
 ghost use Rattle.source_meaning.specs.Built.{IsBuiltAssigned, IsBuiltAssignee};
-ghost use Rattle.source_meaning.specs.Steps.{assigned_parts, assignee_parts, parts_of};
+ghost use Rattle.source_meaning.specs.Steps.{assigned_parts, assignee_parts, field_parts, parts_of};
 ghost use Rattle.world.specs.declared.body.Statement.TheVariants as statement_kind;
 ghost use Rattle.body_forms.specs.Callees.{callee_number};
 ghost use Rattle.body_forms.specs.Contexts.{source_of};
 ghost use Rattle.body_forms.specs.Form.{core_assigned, core_assignee, core_elem, core_form, core_value, literal_places, literal_sources};
 ghost use Rattle.body_forms.specs.declared.form.Form.TheVariants.{Struct, Update};
-ghost use Rattle.mir_lower.specs.Graph.{shape, local_of};
-ghost use Rattle.mir_lower.specs.Growth.{IsPlaced, IsReady, ArePartsReady, IsReadyPart};
+ghost use Rattle.mir_graph.specs.Graph.{shape, local_of};
+ghost use Rattle.mir_lower.specs.Growth.{HasIndex, IsPlaced, IsReady, ArePartsReady, IsReadyPart};
 ghost use Rattle.body_forms.specs.Operations.{several_operation, single_operation};
-ghost use Rattle.mir_lower.specs.Lowered.{HasStatements, LowersAssigned, LowersAssignee, LowersInto, LowersField, LowersPlace, LowersOperand, LowersOperands, LowersStatements, LowersTail, IsStatementOf, LowersOwn};
+ghost use Rattle.mir_lower.specs.Lowered.{HasStatements, LowersAssigned, LowersAssignee, LowersIndex, LowersInto, LowersField, LowersPlace, LowersOperand, LowersOperands, LowersStatements, LowersTail, IsStatementOf, LowersOwn};
 ghost use Rattle.mir_lower.specs.Built.{IsBuilt, IsBuiltThrough};
 ghost use Rattle.mir_lower.specs.Refusals.{RefusesAt};
 ghost use Rattle.std.specs.Prelude.{All, Contains, IfSome, IsSome, map};
@@ -25,22 +25,25 @@ ghost use Rattle.world.specs.Nodes.{expr_numbers, optional};
 
 use crate::branch::{fork, go_on};
 use crate::call::call;
-use crate::graph::Graph;
 use crate::jump::{enter_loop, jump, leave_loop, return_from, target_of_jump};
 use crate::leave::leave_scope;
 use crate::locals::{
-    assign, bind, combined_local, fake_read, named_local, new_never, new_temp, target_local, write,
+    assign, bind, combined_local, fake_read, named_local, new_index, new_never, new_temp,
+    target_local, write,
 };
 use crate::update::field_operands;
 use body_forms::{
     Assigned, Assignee, Context, FieldStep, Form, LiteralValue, PlaceForm, Several, Single,
     StructLiteral, copied, deciding, diverges, field_sources, form_at, form_not_built, kind_of,
-    literal_at, lower_callee, lower_literal, made_of, method_args, place_elem, place_form_at,
+    literal_at, lower_callee, lower_literal, made_of, method_args, part_elem, place_form_at,
     struct_value, written_exprs,
 };
+use either::Either;
 use mir::{
-    AggregateKind, BinOp, LocalId, MirLowerError, MirSpan, Operand, OperandKind, Place, Rvalue,
+    AggregateKind, BinOp, LocalId, MirLowerError, MirSpan, Operand, OperandKind, Place, PlaceElem,
+    Rvalue,
 };
+use mir_graph::Graph;
 use world::{ExprId, LabelId, List, LogicOp, PatId, Statement, Text, TryClone, VariantId};
 
 /// A literal is assigned.
@@ -107,7 +110,7 @@ pub(crate) fn lower_operand(
     }
 }
 
-/// An expression to a place: what a path names, a field of its base's place, or a local of its own.
+/// An expression to a place: what a path names, a field or an element of its base's place, or a local of its own.
 #[cycle(lower)]
 fn lower_place(context: &Context<'_>, graph: &mut Graph, e: ExprId) -> Result<Place, MirLowerError>
     requires { IsReadyPart (source_of context.now) (shape graph.old) e.0 }
@@ -122,8 +125,8 @@ fn lower_place(context: &Context<'_>, graph: &mut Graph, e: ExprId) -> Result<Pl
     }
 }
 
-/// A field's place: its base's place, with one more element. The base is a part of the given expression, which is the field, or has it as
-/// its target.
+/// The place of a field or an element: its base's place, with one more element. The base, and the index of an element, are parts of the given expression, which is
+/// the field, or has it as its target.
 #[cycle(lower)]
 fn lower_field(
     context: &Context<'_>,
@@ -133,17 +136,48 @@ fn lower_field(
     step: FieldStep,
 ) -> Result<Place, MirLowerError>
     requires ready { ArePartsReady (source_of context.now) (shape graph.old) e.0 }
-    requires part { Contains (parts_of (node (source_of context.now) e.0)) base.0 }
+    requires parts { (child : ℕ) → Contains (field_parts base.0 (core_elem step)) child → Contains (parts_of (node (source_of context.now) e.0)) child }
+    requires index { HasIndex (source_of context.now) (core_elem step) }
     ensures lowered { IfOk result (λ place. LowersField (source_of context.now) (shape graph.old) (shape graph.new) base.0 (core_elem step) place) }
-    ensures built { OnOk result (IsBuilt (source_of context.now) base.0) }
+    ensures built { OnOk result (All (IsBuilt (source_of context.now)) (field_parts base.0 (core_elem step))) }
     ensures refused { IfErr result (RefusesAt (source_of context.now) e.0) }
 {
     let place = lower_place(context, graph, base)?;
-    let place = graph.project(place, place_elem(step))?;
-    Ok(place)
+    match step {
+        FieldStep::Part(index) => Ok(graph.project(place, part_elem(index))?),
+        FieldStep::Field(field) => {
+            Ok(graph.project(place, PlaceElem::Field(Either::Left(field)))?)
+        }
+        FieldStep::Element(at, index) => {
+            let local = lower_index(context, graph, e, at, index)?;
+            Ok(graph.project(place, PlaceElem::Index(local))?)
+        }
+    }
 }
 
-/// A field evaluated into a local: the bytes of its place are copied.
+/// The index of an element, evaluated into a local of its own. The index is a part of the given expression, which is the index expression `at`, or has
+/// it as its target.
+#[cycle(lower)]
+fn lower_index(
+    context: &Context<'_>,
+    graph: &mut Graph,
+    e: ExprId,
+    at: ExprId,
+    index: ExprId,
+) -> Result<LocalId, MirLowerError>
+    requires ready { ArePartsReady (source_of context.now) (shape graph.old) e.0 }
+    requires part { Contains (parts_of (node (source_of context.now) e.0)) index.0 }
+    requires index { index_of (source_of context.now) at.0 ≡ Some index.0 }
+    ensures lowered { IfOk result (λ local. LowersIndex (source_of context.now) (shape graph.old) (shape graph.new) at.0 index.0 local.0) }
+    ensures built { OnOk result (IsBuilt (source_of context.now) index.0) }
+    ensures refused { IfErr result (RefusesAt (source_of context.now) e.0) }
+{
+    let local = new_index(context, graph, at, index)?;
+    lower_into(context, graph, index, local)?;
+    Ok(local)
+}
+
+/// A field or an element evaluated into a local: the bytes of its place are copied.
 #[cycle(lower)]
 fn field_into(
     context: &Context<'_>,

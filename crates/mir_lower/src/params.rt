@@ -6,14 +6,14 @@ ghost use Rattle.types.specs.declared.ids.BindingId.{BindingId};
 ghost use Rattle.source_meaning.specs.Calls.{self_bound};
 ghost use Rattle.source_meaning.specs.Source.{Binding, pattern};
 ghost use Rattle.body_forms.specs.Contexts.{source_of};
-ghost use Rattle.mir_lower.specs.Graph.{shape, binding_local, with_mark};
+ghost use Rattle.mir_graph.specs.Graph.{shape, binding_local, with_mark};
 ghost use Rattle.mir_lower.specs.Growth.{IsSound};
 ghost use Rattle.mir_lower.specs.Parameters.{MarksBindings, LowersParameters};
 ghost use Rattle.mir_lower.specs.Refusals.{RefusesPattern, RefusesParameters};
 
-use crate::graph::{Graph, Held};
 use body_forms::{Context, form_not_built, name_bound};
 use mir::{LocalId, MirLowerError};
+use mir_graph::{Graph, Held};
 use world::{BindingId, List, PatId};
 
 /// Marks the local of a binding that is a parameter as in use in the innermost open scope. It has no `StorageLive`: an

@@ -2,12 +2,13 @@
 
 ghost use Rattle.std.specs.Prelude.{All, [], ◌∷◌, map, IfOk};
 ghost use Rattle.body_forms.specs.Form.{core_source};
-ghost use Rattle.mir_lower.specs.Graph.{shape};
+ghost use Rattle.mir_graph.specs.Graph.{shape};
 ghost use Rattle.mir_lower.specs.Updates.{AreFound, IsAmong, IsKnown};
 
-use crate::graph::Graph;
-use body_forms::{FieldSource, FieldStep, place_elem};
-use mir::{Operand, OperandKind, Place};
+use body_forms::FieldSource;
+use either::Either;
+use mir::{Operand, OperandKind, Place, PlaceElem};
+use mir_graph::Graph;
 use std::alloc::Global;
 use world::{List, NoMemory, TryClone};
 
@@ -31,7 +32,7 @@ fn field_operand(
             operand.try_clone(alloc)
         }
         FieldSource::OfBase(field) => {
-            let place = graph.project(base, place_elem(FieldStep::Field(field)))?;
+            let place = graph.project(base, PlaceElem::Field(Either::Left(field)))?;
             Ok(Operand {
                 kind: OperandKind::Copy(place),
                 span: None,

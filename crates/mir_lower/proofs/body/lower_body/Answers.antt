@@ -10,7 +10,7 @@ use Rattle.source_meaning.specs.Source.{Source, Cell, root, Result}
 use Rattle.source_meaning.specs.Valid.{itself}
 use Rattle.body_forms.specs.Contexts.{source_of}
 use Rattle.mir_lower.specs.Callees.{AreLocalsOf}
-use Rattle.mir_lower.specs.Graph.{Shape, shape, local_of, with_scope}
+use Rattle.mir_graph.specs.Graph.{Shape, shape, local_of, with_scope}
 use Rattle.mir_lower.specs.Leaving.{Idles}
 use Rattle.mir_lower.specs.Lowered.{LowersInto}
 use Rattle.mir_lower.specs.Refusals.{RefusesAt, RefusesParameters}

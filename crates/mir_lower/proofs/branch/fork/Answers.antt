@@ -2,7 +2,7 @@
 use Rattle.std.proofs.Common.{ap, ◌∙◌}
 use Rattle.mir.specs.declared.span.MirSpan.TheVariants.{ExprId}
 use Rattle.body_forms.specs.Contexts.{source_of}
-use Rattle.mir_lower.specs.Graph.{shape, with_entered}
+use Rattle.mir_graph.specs.Graph.{shape, with_entered}
 use Rattle.mir_lower.proofs.Forking.{forks, parts-by-pair}
 use Rattle.mir_lower.proofs.Reserving.{stays-open}
 use Rattle.mir_lower.proofs.branch.fork.Goals as goal

@@ -1,7 +1,7 @@
 -- The block is ended, and the next one opened.
 use Rattle.std.proofs.Common.{ap, ◌∙◌}
 use Rattle.mir.specs.declared.span.MirSpan.TheVariants.{ExprId}
-use Rattle.mir_lower.specs.Graph.{shape, with_entered}
+use Rattle.mir_graph.specs.Graph.{shape, with_entered}
 use Rattle.mir_lower.proofs.Forking.{goes-on}
 use Rattle.mir_lower.proofs.branch.go_on.Goals as goal
 

@@ -1,7 +1,7 @@
 -- No binding at first, and one more after each turn.
 use Rattle.std.proofs.Common.{◌+◌, Some, sym, ap, ◌∙◌, subst}
 use Rattle.body_forms.specs.Contexts.{source_of}
-use Rattle.mir_lower.specs.Graph.{shape}
+use Rattle.mir_graph.specs.Graph.{shape}
 use Rattle.mir_lower.specs.Growth.{IsFirst}
 use Rattle.mir_lower.proofs.Beginning.{first-none, first-more}
 use Rattle.mir_lower.proofs.first.first_graph.Goals as goal

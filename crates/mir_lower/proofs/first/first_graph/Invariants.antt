@@ -1,5 +1,5 @@
 use Rattle.body_forms.specs.Contexts.{source_of}
-use Rattle.mir_lower.specs.Graph.{shape}
+use Rattle.mir_graph.specs.Graph.{shape}
 use Rattle.mir_lower.specs.Growth.{IsFirst}
 use Rattle.mir_lower.proofs.first.first_graph.Given as goal
 

@@ -2,7 +2,7 @@
 use Rattle.std.proofs.Common.{◌∷◌, sym, subst}
 use Rattle.mir_lower.specs.Branches.{IsReserved}
 use Rattle.body_forms.specs.Contexts.{source_of}
-use Rattle.mir_lower.specs.Graph.{Shape, shape, target_of_blocks}
+use Rattle.mir_graph.specs.Graph.{Shape, shape, target_of_blocks}
 use Rattle.mir_lower.specs.Growth.{IsSound, IsOpen}
 use Rattle.mir_lower.proofs.Jumps.{with_targets-sound, with_targets-open, with_targets-reserved, begin-reserved, enters}
 use Rattle.mir_lower.proofs.Reserving.{reserves}

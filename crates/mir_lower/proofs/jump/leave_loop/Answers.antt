@@ -1,7 +1,7 @@
 -- The innermost loop is taken back, and the block behind it is opened.
 use Rattle.std.proofs.Common.{sym, subst}
 use Rattle.mir_lower.specs.Branches.{HasGoneOn}
-use Rattle.mir_lower.specs.Graph.{Shape, shape}
+use Rattle.mir_graph.specs.Graph.{Shape, shape}
 use Rattle.mir_lower.specs.Growth.{IsSound, IsOpen}
 use Rattle.mir_lower.proofs.Jumps.{with_targets-sound, with_targets-open}
 use Rattle.mir_lower.proofs.jump.leave_loop.Goals as goal

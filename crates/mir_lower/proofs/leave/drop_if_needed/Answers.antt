@@ -5,7 +5,7 @@ use Rattle.mir.specs.declared.span.MirSpan.TheVariants.{ExprId}
 use Rattle.std.specs.Prelude.{None}
 use Rattle.body_forms.specs.Contexts.{source_of}
 use Rattle.mir.specs.WholePlaces.{whole_place}
-use Rattle.mir_lower.specs.Graph.{shape}
+use Rattle.mir_graph.specs.Graph.{shape}
 use Rattle.mir_lower.specs.Leaving.{Idles, one_if}
 use Rattle.mir_lower.proofs.Leaving.{idles-drop, idles-refl}
 use Rattle.mir_lower.proofs.leave.drop_if_needed.Goals as goal

@@ -4,7 +4,7 @@ use Rattle.std.proofs.lemmas.Result.{on_ok_weaker}
 use Rattle.mir.specs.declared.span.MirSpan.TheVariants.{ExprId}
 use Rattle.source_meaning.specs.Source.{is_dropped}
 use Rattle.body_forms.specs.Contexts.{source_of}
-use Rattle.mir_lower.specs.Graph.{shape, cell_of}
+use Rattle.mir_graph.specs.Graph.{shape, cell_of}
 use Rattle.mir_lower.specs.Leaving.{Idles, one_if}
 use Rattle.mir_lower.proofs.Leaving.{idles-dead, idles-trans}
 use Rattle.mir_lower.proofs.leave.leave_local.Goals as goal

@@ -4,10 +4,10 @@ use Rattle.std.specs.Prelude.{slice_get}
 use Rattle.std.proofs.lemmas.List.{length-map}
 use Rattle.source_meaning.specs.Source.{drops}
 use Rattle.body_forms.specs.Contexts.{source_of}
-use Rattle.mir_lower.specs.Graph.{shape, cell_of}
+use Rattle.mir_graph.specs.Graph.{shape, cell_of}
 use Rattle.mir_lower.specs.Leaving.{Idles}
 use Rattle.mir_lower.proofs.Drops.{marked-left, nothing-left, left-as-marked}
-use Rattle.mir_lower.proofs.Lists.{at-index}
+use Rattle.mir_graph.proofs.Lists.{at-index}
 use Rattle.mir_lower.proofs.leave.leave_marked.Goals as goal
 
 pub loop-left-preserved : goal.loop-left-preserved

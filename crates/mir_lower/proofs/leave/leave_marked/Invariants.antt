@@ -2,7 +2,7 @@
 use Rattle.std.proofs.Common.{◌≡◌, ◌≤◌, ◌⊎◌, length, drop}
 use Rattle.source_meaning.specs.Source.{drops}
 use Rattle.body_forms.specs.Contexts.{source_of}
-use Rattle.mir_lower.specs.Graph.{shape}
+use Rattle.mir_graph.specs.Graph.{shape}
 use Rattle.mir_lower.specs.Leaving.{Idles}
 use Rattle.mir_lower.proofs.leave.leave_marked.Given as goal
 

@@ -3,7 +3,7 @@ use Rattle.std.proofs.Common.{length, sym, ap, subst, arith}
 use Rattle.source_meaning.specs.Source.{drops}
 use Rattle.std.specs.Prelude.{take, drop}
 use Rattle.body_forms.specs.Contexts.{source_of}
-use Rattle.mir_lower.specs.Graph.{Shape, shape, cell_of, with_scope}
+use Rattle.mir_graph.specs.Graph.{Shape, shape, cell_of, with_scope}
 use Rattle.mir_lower.specs.Leaving.{Idles}
 use Rattle.mir_lower.proofs.Drops.{none-left, one-left, all-left, without-mark-sound, without-mark-open, fewer-marks}
 use Rattle.mir_lower.proofs.leave.leave_scope.Goals as goal

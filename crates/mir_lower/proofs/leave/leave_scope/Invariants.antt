@@ -1,7 +1,7 @@
 -- Some of the last cells in use were left, and those that were in use when the scope was opened are there.
 use Rattle.std.proofs.Common.{◌≤◌, length}
 use Rattle.body_forms.specs.Contexts.{source_of}
-use Rattle.mir_lower.specs.Graph.{shape}
+use Rattle.mir_graph.specs.Graph.{shape}
 use Rattle.mir_lower.proofs.Drops.{HasLeft}
 use Rattle.mir_lower.proofs.leave.leave_scope.Given as goal
 

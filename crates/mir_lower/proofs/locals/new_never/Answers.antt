@@ -2,17 +2,21 @@
 use Rattle.std.proofs.Common.{Some, sym, ap, ◌∙◌}
 use Rattle.mir.specs.declared.span.MirSpan.TheVariants.{ExprId}
 use Rattle.source_meaning.specs.Source.{Never}
+use Rattle.source_meaning.proofs.Never.{never-cell}
 use Rattle.body_forms.specs.Contexts.{source_of}
-use Rattle.mir_lower.specs.Graph.{shape}
-use Rattle.mir_lower.proofs.InUse.{marks-never, given-marked}
+use Rattle.mir_graph.specs.Graph.{shape, with_never}
+use Rattle.mir_lower.proofs.Given.{ForNever}
+use Rattle.mir_lower.proofs.InUse.{marks-local, given-marked}
 use Rattle.mir_lower.proofs.locals.new_never.Goals as goal
 
 pub push_statement-requires : goal.push_statement-requires
+unfolding with_never
 push_statement-requires c =
-    (marks-never (source_of c.args.context.now) (shape c.args.graph.now) (shape c.never_for.new.self) c.args.e.0 c.in_ok-local.local.0 c.in_ok-ty.ty c.requires.ready c.requires.adjusted (c.own_ty.ensures ∙ ap Some (sym c.in_ok-ty.ensures)) c.in_ok-local.ensures.old c.in_ok-local.ensures.new).«open».there
+    (marks-local ForNever (source_of c.args.context.now) (shape c.args.graph.now) c.args.e.0 c.in_ok-ty.ty c.requires.ready.sound c.requires.ready.«open» c.requires.ready.within (c.requires.ready.reached, c.requires.adjusted, c.requires.ready.within) (never-cell (source_of c.args.context.now) c.args.e.0 c.requires.adjusted ∙ c.own_ty.ensures ∙ ap Some (sym c.in_ok-ty.ensures)) (shape c.never_for.new.self) c.in_ok-local.local.0 c.in_ok-local.ensures.old c.in_ok-local.ensures.new).«open».there
 
 pub returns-clause-given : goal.returns-clause-given
+unfolding with_never
 returns-clause-given c =
     given-marked (source_of c.args.context.now) (shape c.args.graph.now) (shape c.never_for.new.self) (shape c.push_statement.new.self) (Never c.args.e.0) c.in_ok-local.local (ExprId c.args.e)
-    (marks-never (source_of c.args.context.now) (shape c.args.graph.now) (shape c.never_for.new.self) c.args.e.0 c.in_ok-local.local.0 c.in_ok-ty.ty c.requires.ready c.requires.adjusted (c.own_ty.ensures ∙ ap Some (sym c.in_ok-ty.ensures)) c.in_ok-local.ensures.old c.in_ok-local.ensures.new)
+    (marks-local ForNever (source_of c.args.context.now) (shape c.args.graph.now) c.args.e.0 c.in_ok-ty.ty c.requires.ready.sound c.requires.ready.«open» c.requires.ready.within (c.requires.ready.reached, c.requires.adjusted, c.requires.ready.within) (never-cell (source_of c.args.context.now) c.args.e.0 c.requires.adjusted ∙ c.own_ty.ensures ∙ ap Some (sym c.in_ok-ty.ensures)) (shape c.never_for.new.self) c.in_ok-local.local.0 c.in_ok-local.ensures.old c.in_ok-local.ensures.new)
     c.in_ok-push_statement.ensures

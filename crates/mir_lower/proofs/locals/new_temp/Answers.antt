@@ -3,16 +3,19 @@ use Rattle.std.proofs.Common.{Some, sym, ap, ◌∙◌}
 use Rattle.mir.specs.declared.span.MirSpan.TheVariants.{ExprId}
 use Rattle.source_meaning.specs.Source.{Node}
 use Rattle.body_forms.specs.Contexts.{source_of}
-use Rattle.mir_lower.specs.Graph.{shape}
-use Rattle.mir_lower.proofs.InUse.{marks-expression, given-marked}
+use Rattle.mir_graph.specs.Graph.{shape, with_temp}
+use Rattle.mir_lower.proofs.Given.{ForValue}
+use Rattle.mir_lower.proofs.InUse.{marks-local, given-marked}
 use Rattle.mir_lower.proofs.locals.new_temp.Goals as goal
 
 pub push_statement-requires : goal.push_statement-requires
+unfolding with_temp
 push_statement-requires c =
-    (marks-expression (source_of c.args.context.now) (shape c.args.graph.now) (shape c.temp_for.new.self) c.args.e.0 c.in_ok-local.local.0 c.in_ok-ty.ty c.requires.ready c.requires.form (c.node_ty.ensures ∙ ap Some (sym c.in_ok-ty.ensures)) c.in_ok-local.ensures.old c.in_ok-local.ensures.new).«open».there
+    (marks-local ForValue (source_of c.args.context.now) (shape c.args.graph.now) c.args.e.0 c.in_ok-ty.ty c.requires.ready.ready.sound c.requires.ready.ready.«open» c.requires.ready.ready.within (c.requires.ready.ready.reached, c.requires.form, c.requires.ready.below) (c.node_ty.ensures ∙ ap Some (sym c.in_ok-ty.ensures)) (shape c.temp_for.new.self) c.in_ok-local.local.0 c.in_ok-local.ensures.old c.in_ok-local.ensures.new).«open».there
 
 pub returns-clause-given : goal.returns-clause-given
+unfolding with_temp
 returns-clause-given c =
     given-marked (source_of c.args.context.now) (shape c.args.graph.now) (shape c.temp_for.new.self) (shape c.push_statement.new.self) (Node c.args.e.0) c.in_ok-local.local (ExprId c.args.e)
-    (marks-expression (source_of c.args.context.now) (shape c.args.graph.now) (shape c.temp_for.new.self) c.args.e.0 c.in_ok-local.local.0 c.in_ok-ty.ty c.requires.ready c.requires.form (c.node_ty.ensures ∙ ap Some (sym c.in_ok-ty.ensures)) c.in_ok-local.ensures.old c.in_ok-local.ensures.new)
+    (marks-local ForValue (source_of c.args.context.now) (shape c.args.graph.now) c.args.e.0 c.in_ok-ty.ty c.requires.ready.ready.sound c.requires.ready.ready.«open» c.requires.ready.ready.within (c.requires.ready.ready.reached, c.requires.form, c.requires.ready.below) (c.node_ty.ensures ∙ ap Some (sym c.in_ok-ty.ensures)) (shape c.temp_for.new.self) c.in_ok-local.local.0 c.in_ok-local.ensures.old c.in_ok-local.ensures.new)
     c.in_ok-push_statement.ensures

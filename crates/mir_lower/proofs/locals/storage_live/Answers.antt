@@ -3,7 +3,7 @@ use Rattle.std.proofs.Common.{subst, sym}
 use Rattle.mir.specs.declared.span.MirSpan.TheVariants.{BindingId}
 use Rattle.source_meaning.specs.Source.{Binding}
 use Rattle.body_forms.specs.Contexts.{source_of}
-use Rattle.mir_lower.specs.Graph.{Shape, shape}
+use Rattle.mir_graph.specs.Graph.{Shape, shape}
 use Rattle.mir_lower.proofs.InUse.{IsMarked, marks-cell, given-marked}
 use Rattle.mir_lower.proofs.locals.storage_live.Goals as goal
 

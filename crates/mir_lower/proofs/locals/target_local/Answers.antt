@@ -1,6 +1,6 @@
 -- The target names a binding, which has a local or isn't one of the body's.
 use Rattle.body_forms.specs.Contexts.{source_of}
-use Rattle.mir_lower.specs.Graph.{shape}
+use Rattle.mir_graph.specs.Graph.{shape}
 use Rattle.mir_lower.proofs.Assignments.{names-target}
 use Rattle.mir_lower.proofs.Building.{has-binding}
 use Rattle.mir_lower.proofs.InUse.{lacks-binding}

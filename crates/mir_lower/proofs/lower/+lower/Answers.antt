@@ -5,21 +5,22 @@ use Rattle.std.proofs.lemmas.Result.{IfOk-weaker, on_ok_weaker, IfErr-weaker}
 use Rattle.mir.specs.declared.errors.MirLowerError.TheVariants as refusal
 use Rattle.mir.specs.declared.span.MirSpan.TheVariants.{ExprId}
 use Rattle.source_meaning.specs.Events.{marked_as_place, marked_in_block}
-use Rattle.source_meaning.specs.Source.{Result, Node, Never, node, unadjusted}
+use Rattle.source_meaning.specs.Source.{IndexOf, Result, Node, Never, node, unadjusted}
 use Rattle.source_meaning.proofs.Never.{unadjusted-plain}
 use Rattle.body_forms.specs.Callees.{callee_number}
 use Rattle.body_forms.specs.Contexts.{source_of}
-use Rattle.mir_lower.specs.Graph.{IsProjected, shape, target_of_blocks, with_statement}
-use Rattle.mir_lower.specs.Growth.{Grows, IsPlaced, IsInside}
+use Rattle.mir_graph.specs.Graph.{IsProjected, shape, target_of_blocks, with_statement}
+use Rattle.mir_lower.specs.Growth.{Grows, HasIndex, IsPlaced, IsInside}
 use Rattle.source_meaning.specs.Valid.{opened_in}
-use Rattle.mir_lower.specs.Lowered.{HasStatements, LowersAssigned, LowersAssignee, LowersPlace, LowersOperand, LowersOperands, LowersStatements, LowersTail}
+use Rattle.mir_lower.specs.Lowered.{HasStatements, LowersAssigned, LowersAssignee, LowersField, LowersPlace, LowersOperand, LowersOperands, LowersStatements, LowersTail}
 use Rattle.mir.specs.declared.operand.Operand.{Operand}
 use Rattle.mir.specs.declared.operand.OperandKind.{OperandKind}
 use Rattle.mir.specs.declared.operand.Place.{Place}
 use Rattle.mir.specs.declared.operand.Rvalue.TheVariants.{Aggregate, CheckedBinaryOp}
 use Rattle.source_meaning.specs.Core as expr
-use Rattle.source_meaning.specs.Core.{ByPath, ByPattern, Combine, MakeStruct}
-use Rattle.body_forms.specs.Form.{IsPlaceForm, core_assigned, core_assignee, core_elem, core_source, core_value}
+use Rattle.source_meaning.specs.Core.{ByPath, ByPattern, Combine, FieldOf, MakeStruct, Part}
+use Rattle.body_forms.specs.Form.{IsPlaceForm, core_assigned, core_assignee, core_elem, core_source, core_value, field_elem, part_elem}
+use Rattle.body_forms.specs.declared.form.FieldStep.{FieldStep}
 use Rattle.body_forms.specs.Refusals.{IsUnbuilt}
 use Rattle.body_forms.specs.declared.form.Assigned.{Assigned}
 use Rattle.body_forms.specs.declared.form.Assignee.{Assignee}
@@ -35,10 +36,11 @@ use Rattle.mir_lower.proofs.Assignments.{assigns-place, value-part, target-part,
 use Rattle.mir_lower.proofs.Calls.{Collects, argument-in, arguments-from, built-arguments, collects-none, collects-more, collects-all, has-called, lowers-call}
 use Rattle.source_meaning.proofs.Parts.{call_parts, strict_parts}
 use Rattle.world.specs.Nodes.{expr_numbers, field_numbers}
-use Rattle.mir_lower.proofs.Compounds.{combined-part, combined-base-part, lowers-own-path, lowers-own-field, lowers-compound, refuses-combined}
+use Rattle.mir_lower.proofs.Compounds.{combined-part, combined-field-part, lowers-own-path, lowers-own-field, lowers-compound, refuses-combined}
 use Rattle.mir_lower.proofs.Blocks.{idles-read, lowers-none, lowers-more, lowers-let, lowers-expr-statement, lowers-tail, lowers-no-tail, block-inner, lowers-block}
 use Rattle.mir_lower.proofs.Drops.{opened-within, scope-left}
-use Rattle.mir_lower.proofs.Fields.{base-part, finds-field, lowers-field, lowers-field-into}
+use Rattle.mir_lower.proofs.Fields.{base-among, field-part, finds-element, finds-field, index-among, index-evaluated, lowers-field, lowers-field-into, lowers-index, own-index}
+use Rattle.source_meaning.proofs.Indices.{node_has_index, target_has_index}
 use Rattle.mir_lower.proofs.Projecting.{at-later, place-known}
 use Rattle.mir_lower.proofs.Operands.{lowers-literal-operand, lowers-place-operand, lowers-temp, lowers-name}
 use Rattle.mir_lower.proofs.Rvalues.{is-aggregate}
@@ -67,7 +69,7 @@ use Rattle.mir_lower.proofs.Conditions.{left-part, right-part, condition-part, t
 use Rattle.mir_lower.specs.Branches.{IsForked}
 use Rattle.source_meaning.specs.Meaning.{deciding_byte}
 use Rattle.source_meaning.specs.Built.{IsBuiltAssigned, IsBuiltAssignee}
-use Rattle.source_meaning.specs.Steps.{assigned_parts, assignee_parts, parts_of}
+use Rattle.source_meaning.specs.Steps.{assigned_parts, assignee_parts, field_parts, parts_of}
 use Rattle.mir_lower.proofs.lower.+lower.Goals as goal
 
 -- an operand, and a place
@@ -91,7 +93,7 @@ pub lower_operand-returns-in_ok-place-in-None : goal.lower_operand-returns-in_ok
 lower_operand-returns-in_ok-place-in-None t c =
     let source = source_of c.args.context.now in
     record {
-      lowered = subst (λ (k : OperandKind). LowersOperand source (shape c.args.graph.now) (shape c.lower_place.new.graph) c.args.e.0 k) (sym c.copied.ensures)
+      lowered = subst (λ (k : OperandKind). LowersOperand source (shape c.args.graph.now) (shape c.lower_place.new.graph) c.args.e.0 k) (sym c.copied.ensures.kind)
           (lowers-place-operand source (shape c.args.graph.now) (shape c.lower_place.new.graph) c.args.e.0 c.in_ok-place-in-None.place c.in_ok-place-in-None.ensures.lowered
           c.in-None.ensures.none);
       built = c.in_ok-place-in-None.ensures.built;
@@ -122,7 +124,8 @@ lower_place-lower_field-requires t c =
     let source = source_of c.args.context.now in
     let form : unadjusted source c.args.e.0 ≡ Some (expr.Field c.in-Field.base.0 (core_elem c.in-Field.step)) = subst (IsPlaceForm source c.args.e.0) c.in-Field.is c.place_form_at.ensures in
     let node-is = (unadjusted-plain source c.args.e.0 _ form).1 in
-    (omega arith, (parts-ready source (shape c.args.graph.now) c.args.e.0 (λ outer. ap (λ n. opened_in c.args.e.0 n outer) node-is) c.requires.ready, base-part source c.args.e.0 c.in-Field.base.0 (core_elem c.in-Field.step) node-is))
+    let elem = core_elem c.in-Field.step in
+    (omega arith, (parts-ready source (shape c.args.graph.now) c.args.e.0 (λ outer. ap (λ n. opened_in c.args.e.0 n outer) node-is) c.requires.ready, (field-part source c.args.e.0 c.in-Field.base.0 elem node-is, own-index source elem (node_has_index source c.args.e.0 c.in-Field.base.0 elem node-is))))
 
 pub lower_place-returns-in-Field-clause-lowered : goal.lower_place-returns-in-Field-clause-lowered
 lower_place-returns-in-Field-clause-lowered t c =
@@ -143,41 +146,142 @@ lower_place-returns-in-Field-clause-built t c =
 pub lower_field-lower_place-requires : goal.lower_field-lower_place-requires
 lower_field-lower_place-requires t c =
     let source = source_of c.args.context.now in
-    let below = part-below source c.args.e.0 c.args.base.0 c.requires.ready.checked c.requires.part in
-    (omega (arith, below), part-ready source (shape c.args.graph.now) c.args.e.0 c.args.base.0 c.requires.ready c.requires.part)
+    let part = c.requires.parts c.args.base.0 (base-among c.args.base.0 (core_elem c.args.step)) in
+    let below = part-below source c.args.e.0 c.args.base.0 c.requires.ready.checked part in
+    (omega (arith, below), part-ready source (shape c.args.graph.now) c.args.e.0 c.args.base.0 c.requires.ready part)
 
 pub lower_field-returns-in_err-place-clause-refused : goal.lower_field-returns-in_err-place-clause-refused
 lower_field-returns-in_err-place-clause-refused t c =
     let source = source_of c.args.context.now in
     refused-exit (RefusesAt source c.args.e.0) _ c.from_residual.result c.from_residual.ensures.1
-    (λ error same. subst (RefusesAt source c.args.e.0) (sym same) (refuses-part source c.args.e.0 c.args.base.0 _ c.requires.part c.in_err-place.ensures.refused))
+    (λ error same. subst (RefusesAt source c.args.e.0) (sym same) (refuses-part source c.args.e.0 c.args.base.0 _ (c.requires.parts c.args.base.0 (base-among c.args.base.0 (core_elem c.args.step))) c.in_err-place.ensures.refused))
 
 pub lower_field-project-requires : goal.lower_field-project-requires
 lower_field-project-requires t c = place-known (shape c.lower_place.new.graph) c.lower_place.new.graph.projections.law c.in_ok-place.place c.in_ok-place.ensures.lowered.does.at c.in_ok-place.ensures.lowered.does.is
 
-pub lower_field-returns-in_err-place-2-clause-refused : goal.lower_field-returns-in_err-place-2-clause-refused
-lower_field-returns-in_err-place-2-clause-refused t c =
-    refused-exit (RefusesAt (source_of c.args.context.now) c.args.e.0) _ c.from_residual-in_err-place-2.result c.from_residual-in_err-place-2.ensures.1
+pub lower_field-returns-in_err-project-in-Part-clause-refused : goal.lower_field-returns-in_err-project-in-Part-clause-refused
+lower_field-returns-in_err-project-in-Part-clause-refused t c =
+    refused-exit (RefusesAt (source_of c.args.context.now) c.args.e.0) _ c.from_residual-in_err-project-in-Part.result c.from_residual-in_err-project-in-Part.ensures.1
     (λ error none. refuses-no-memory (source_of c.args.context.now) c.args.e.0 error none)
 
-pub lower_field-returns-clause-lowered : goal.lower_field-returns-clause-lowered
-lower_field-returns-clause-lowered t c =
+pub lower_field-returns-in_ok-project-in-Part-clause-lowered : goal.lower_field-returns-in_ok-project-in-Part-clause-lowered
+lower_field-returns-in_ok-project-in-Part-clause-lowered t c =
     let source = source_of c.args.context.now in
-    finds-field source (shape c.args.graph.now) (shape c.lower_place.new.graph) (shape c.project.new.self) c.args.base.0 (core_elem c.args.step) c.in_ok-place.place c.in_ok-place-2.place c.in_ok-place.ensures.lowered
-    (subst (λ elem. IsProjected (shape c.lower_place.new.graph) (shape c.project.new.self) c.in_ok-place.place elem c.in_ok-place-2.place) c.place_elem.ensures c.in_ok-place-2.ensures)
+    let s0 = shape c.args.graph.now in
+    let s1 = shape c.lower_place.new.graph in
+    let s2 = shape c.project.new.self in
+    let made = c.in_ok-project-in-Part.field-0 in
+    subst (λ (step : FieldStep). LowersField source s0 s2 c.args.base.0 (core_elem step) made) (sym c.in-Part.is)
+    (finds-field source s0 s1 s2 c.args.base.0 (Part c.in-Part.index) (part_elem c.in-Part.index) c.in_ok-place.place made tt refl c.in_ok-place.ensures.lowered
+    (subst (λ elem. IsProjected s1 s2 c.in_ok-place.place elem made) c.part_elem.ensures c.in_ok-project-in-Part.ensures))
+
+pub lower_field-project-requires-in-Field : goal.lower_field-project-requires-in-Field
+lower_field-project-requires-in-Field t c = place-known (shape c.lower_place.new.graph) c.lower_place.new.graph.projections.law c.in_ok-place.place c.in_ok-place.ensures.lowered.does.at c.in_ok-place.ensures.lowered.does.is
+
+pub lower_field-returns-in_err-project-in-Field-clause-refused : goal.lower_field-returns-in_err-project-in-Field-clause-refused
+lower_field-returns-in_err-project-in-Field-clause-refused t c =
+    refused-exit (RefusesAt (source_of c.args.context.now) c.args.e.0) _ c.from_residual-in_err-project-in-Field.result c.from_residual-in_err-project-in-Field.ensures.1
+    (λ error none. refuses-no-memory (source_of c.args.context.now) c.args.e.0 error none)
+
+pub lower_field-returns-in_ok-project-in-Field-clause-lowered : goal.lower_field-returns-in_ok-project-in-Field-clause-lowered
+lower_field-returns-in_ok-project-in-Field-clause-lowered t c =
+    let source = source_of c.args.context.now in
+    let s0 = shape c.args.graph.now in
+    let s1 = shape c.lower_place.new.graph in
+    let s2 = shape c.project-in-Field.new.self in
+    let made = c.in_ok-project-in-Field.field-0 in
+    subst (λ (step : FieldStep). LowersField source s0 s2 c.args.base.0 (core_elem step) made) (sym c.in-Field.is)
+    (finds-field source s0 s1 s2 c.args.base.0 (FieldOf c.in-Field.field) (field_elem c.in-Field.field) c.in_ok-place.place made tt refl c.in_ok-place.ensures.lowered c.in_ok-project-in-Field.ensures)
+
+pub lower_field-lower_index-requires : goal.lower_field-lower_index-requires
+lower_field-lower_index-requires t c =
+    let source = source_of c.args.context.now in
+    let s0 = shape c.args.graph.now in
+    let s1 = shape c.lower_place.new.graph in
+    let keeps = c.in_ok-place.ensures.lowered.keeps in
+    let n = c.in-Element.at.0 in
+    let index = c.in-Element.index.0 in
+    let parts = subst (λ (step : FieldStep). (child : ℕ) → Contains (field_parts c.args.base.0 (core_elem step)) child → Contains (parts_of (node source c.args.e.0)) child) c.in-Element.is c.requires.parts in
+    let has = subst (λ (step : FieldStep). HasIndex source (core_elem step)) c.in-Element.is c.requires.index in
+    (omega arith, (parts-ready-in source s0 s1 c.args.e.0 c.requires.ready keeps.spares.targets keeps.grows keeps.sound keeps.«open», (parts index (index-among c.args.base.0 n index), has)))
+
+pub lower_field-project-requires-in-Element : goal.lower_field-project-requires-in-Element
+lower_field-project-requires-in-Element t c =
+    let s1 = shape c.lower_place.new.graph in
+    let s2 = shape c.lower_index.new.graph in
+    let at = c.in_ok-place.ensures.lowered.does.at in
+    place-known s2 c.lower_index.new.graph.projections.law c.in_ok-place.place at (at-later s1 s2 c.in_ok-local-in-Element.ensures.lowered.keeps.grows c.in_ok-place.place at c.in_ok-place.ensures.lowered.does.is)
+
+pub lower_field-returns-in_err-project-in-Element-clause-refused : goal.lower_field-returns-in_err-project-in-Element-clause-refused
+lower_field-returns-in_err-project-in-Element-clause-refused t c =
+    refused-exit (RefusesAt (source_of c.args.context.now) c.args.e.0) _ c.from_residual-in_err-project-in-Element.result c.from_residual-in_err-project-in-Element.ensures.1
+    (λ error none. refuses-no-memory (source_of c.args.context.now) c.args.e.0 error none)
+
+pub lower_field-returns-in_ok-project-in-Element-clause-lowered : goal.lower_field-returns-in_ok-project-in-Element-clause-lowered
+lower_field-returns-in_ok-project-in-Element-clause-lowered t c =
+    let source = source_of c.args.context.now in
+    let s0 = shape c.args.graph.now in
+    let s1 = shape c.lower_place.new.graph in
+    let s2 = shape c.lower_index.new.graph in
+    let s3 = shape c.project-in-Element.new.self in
+    let made = c.in_ok-project-in-Element.field-0 in
+    subst (λ (step : FieldStep). LowersField source s0 s3 c.args.base.0 (core_elem step) made) (sym c.in-Element.is)
+    (finds-element source s0 s1 s2 s3 c.args.base.0 c.in-Element.at.0 c.in-Element.index.0 c.in_ok-local-in-Element.local c.in_ok-place.place made c.in_ok-place.ensures.lowered c.in_ok-local-in-Element.ensures.lowered c.in_ok-project-in-Element.ensures)
+
+-- the index of an element, in an own local
+
+pub lower_index-new_index-requires : goal.lower_index-new_index-requires
+lower_index-new_index-requires t c =
+    let source = source_of c.args.context.now in
+    record {
+      checked = c.requires.ready.checked;
+      sound = c.requires.ready.sound;
+      opened = c.requires.ready.«open»;
+      index = index-evaluated source (shape c.args.graph.now) c.args.e.0 c.args.at.0 c.args.index.0 c.requires.ready c.requires.part c.requires.index;
+    }
+
+pub lower_index-returns-in_err-local-clause-refused : goal.lower_index-returns-in_err-local-clause-refused
+lower_index-returns-in_err-local-clause-refused t c =
+    refused-exit (RefusesAt (source_of c.args.context.now) c.args.e.0) _ c.from_residual.result c.from_residual.ensures.1
+    (λ error same. subst (RefusesAt (source_of c.args.context.now) c.args.e.0) (sym same) (refuses-no-memory (source_of c.args.context.now) c.args.e.0 _ c.in_err-local.ensures.refused))
+
+pub lower_index-lower_into-requires : goal.lower_index-lower_into-requires
+lower_index-lower_into-requires t c =
+    let source = source_of c.args.context.now in
+    let given = c.in_ok-local.ensures.given in
+    let below = part-below source c.args.e.0 c.args.index.0 c.requires.ready.checked c.requires.part in (
+      omega (arith, below),
+      (
+        (ready-part source (shape c.args.graph.now) (shape c.new_index.new.graph) c.args.e.0 c.args.index.0 c.requires.ready c.requires.part given.keeps.spares.targets given.keeps.grows given.keeps.sound given.keeps.«open»).ready,
+        record { cell = IndexOf c.args.at.0; found = given.found },
+      ),
+    )
+
+pub lower_index-returns-in_err-lower_into-clause-refused : goal.lower_index-returns-in_err-lower_into-clause-refused
+lower_index-returns-in_err-lower_into-clause-refused t c =
+    let source = source_of c.args.context.now in
+    refused-exit (RefusesAt source c.args.e.0) _ c.from_residual-in_err-lower_into.result c.from_residual-in_err-lower_into.ensures.1
+    (λ error same. subst (RefusesAt source c.args.e.0) (sym same) (refuses-part source c.args.e.0 c.args.index.0 _ c.requires.part c.in_err-lower_into.ensures.refused))
+
+pub lower_index-returns-clause-lowered : goal.lower_index-returns-clause-lowered
+lower_index-returns-clause-lowered t c =
+    let source = source_of c.args.context.now in
+    let given = c.in_ok-local.ensures.given in
+    lowers-index source (shape c.args.graph.now) (shape c.new_index.new.graph) (shape c.lower_into.new.graph) c.args.at.0 c.args.index.0 c.in_ok-local.local.0 c.requires.index given (c.in_ok-lower_into.ensures.lowered (IndexOf c.args.at.0) given.found)
 
 -- a field's bytes
 
 pub field_into-lower_field-requires : goal.field_into-lower_field-requires
 field_into-lower_field-requires t c =
     let source = source_of c.args.context.now in
-    (omega arith, (parts-ready source (shape c.args.graph.now) c.args.e.0 (λ outer. ap (λ n. opened_in c.args.e.0 n outer) c.requires.form) c.requires.ready, base-part source c.args.e.0 c.args.base.0 (core_elem c.args.step) c.requires.form))
+    let elem = core_elem c.args.step in
+    (omega arith, (parts-ready source (shape c.args.graph.now) c.args.e.0 (λ outer. ap (λ n. opened_in c.args.e.0 n outer) c.requires.form) c.requires.ready, (field-part source c.args.e.0 c.args.base.0 elem c.requires.form, own-index source elem (node_has_index source c.args.e.0 c.args.base.0 elem c.requires.form))))
 
 pub field_into-returns-clause-lowered : goal.field_into-returns-clause-lowered
 field_into-returns-clause-lowered t c =
     let source = source_of c.args.context.now in
     on_ok_weaker c.assign.result
-    (λ added cell local. lowers-field-into source (shape c.args.graph.now) (shape c.lower_field.new.graph) (shape c.assign.new.graph) c.args.e.0 c.args.base.0 (core_elem c.args.step) c.args.to c.in_ok-from.from c.copied.result (ExprId c.args.e) c.requires.ready c.requires.form c.in_ok-from.ensures.lowered c.copied.ensures added cell local)
+    (λ added cell local. lowers-field-into source (shape c.args.graph.now) (shape c.lower_field.new.graph) (shape c.assign.new.graph) c.args.e.0 c.args.base.0 (core_elem c.args.step) c.args.to c.in_ok-from.from c.copied.result (ExprId c.args.e) c.requires.ready c.requires.form c.in_ok-from.ensures.lowered c.copied.ensures.kind added cell local)
     c.assign.ensures.added
 
 pub field_into-returns-clause-built : goal.field_into-returns-clause-built
@@ -997,7 +1101,8 @@ pub lower_assigned-lower_field-requires : goal.lower_assigned-lower_field-requir
 lower_assigned-lower_field-requires t c =
     let source = source_of c.args.context.now in
     let form = subst (λ (to : Assigned). node source c.args.e.0 ≡ Some (expr.Compound c.requires.form.0 (core_assigned to) c.requires.form.1)) c.in-Field.is c.requires.form.2 in
-    (omega arith, (c.requires.ready, combined-base-part source c.args.e.0 c.requires.form.0 c.in-Field.base.0 (core_elem c.in-Field.step) c.requires.form.1 form))
+    let elem = core_elem c.in-Field.step in
+    (omega arith, (c.requires.ready, (combined-field-part source c.args.e.0 c.requires.form.0 c.in-Field.base.0 elem c.requires.form.1 form, own-index source elem (target_has_index source c.args.e.0 c.requires.form.0 c.in-Field.base.0 elem c.requires.form.1 form))))
 
 pub lower_assigned-returns-in-Field-clause-lowered : goal.lower_assigned-returns-in-Field-clause-lowered
 lower_assigned-returns-in-Field-clause-lowered t c =
@@ -1018,7 +1123,7 @@ pub lower_assigned-returns-in-Field-clause-parts : goal.lower_assigned-returns-i
 lower_assigned-returns-in-Field-clause-parts t c =
     let source = source_of c.args.context.now in
     on_ok_weaker c.lower_field.result
-    (λ built. subst (λ (to : Assigned). All (IsBuilt source) (assigned_parts (core_assigned to))) (sym c.in-Field.is) (one-built source c.in-Field.base.0 built))
+    (λ built. subst (λ (to : Assigned). All (IsBuilt source) (assigned_parts (core_assigned to))) (sym c.in-Field.is) built)
     c.lower_field.ensures.built
 
 -- a compound assignment

@@ -9,7 +9,7 @@ use Rattle.world.specs.Nodes.{expr_numbers}
 use Rattle.mir_lower.specs.Built.{IsBuilt, IsBuiltThrough}
 use Rattle.mir_lower.proofs.Calls.{Collects}
 use Rattle.body_forms.specs.Contexts.{source_of}
-use Rattle.mir_lower.specs.Graph.{shape}
+use Rattle.mir_graph.specs.Graph.{shape}
 use Rattle.mir_lower.specs.Lowered.{LowersStatements}
 use Rattle.mir_lower.proofs.lower.+lower.Given as goal
 
@@ -33,6 +33,9 @@ decreases-field_into l = 11 * l.e.0 + 4
 
 abbrev pub decreases-lower_field : goal.decreases-lower_field
 decreases-lower_field l = 11 * l.e.0 + 3
+
+abbrev pub decreases-lower_index : goal.decreases-lower_index
+decreases-lower_index l = 11 * l.e.0 + 2
 
 abbrev pub decreases-lower_single : goal.decreases-lower_single
 decreases-lower_single l = 11 * l.e.0 + 4

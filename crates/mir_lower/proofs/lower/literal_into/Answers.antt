@@ -4,7 +4,7 @@ use Rattle.std.proofs.lemmas.Result.{on_ok_weaker, IfErr-weaker}
 use Rattle.mir.specs.declared.span.MirSpan.TheVariants.{ExprId}
 use Rattle.body_forms.specs.Contexts.{source_of}
 use Rattle.body_forms.specs.Form.{core_value}
-use Rattle.mir_lower.specs.Graph.{shape}
+use Rattle.mir_graph.specs.Graph.{shape}
 use Rattle.mir_lower.specs.Refusals.{RefusesAt}
 use Rattle.mir_lower.proofs.Building.{built-literal}
 use Rattle.mir_lower.proofs.Operations.{lowers-literal}

@@ -1,7 +1,7 @@
 -- A jump to the block where its target begins.
 use Rattle.std.proofs.Common.{sym, ◌∙◌, subst}
 use Rattle.body_forms.specs.Contexts.{source_of}
-use Rattle.mir_lower.specs.Graph.{shape, target_of_blocks}
+use Rattle.mir_graph.specs.Graph.{shape, target_of_blocks}
 use Rattle.mir_lower.specs.Refusals.{RefusesAt}
 use Rattle.mir_lower.proofs.Building.{built-continue, has-target}
 use Rattle.mir_lower.proofs.Jumping.{lowers-continue}

@@ -4,7 +4,7 @@ use Rattle.mir.specs.declared.operand.OperandKind.TheVariants.{Copy}
 use Rattle.std.proofs.lemmas.Result.{on_ok_weaker, IfErr-weaker}
 use Rattle.mir.specs.declared.span.MirSpan.TheVariants.{ExprId}
 use Rattle.body_forms.specs.Contexts.{source_of}
-use Rattle.mir_lower.specs.Graph.{shape}
+use Rattle.mir_graph.specs.Graph.{shape}
 use Rattle.mir_lower.specs.Refusals.{RefusesAt}
 use Rattle.mir_lower.proofs.Building.{built-path}
 use Rattle.mir_lower.proofs.Operations.{lowers-named}
@@ -20,7 +20,7 @@ pub returns-clause-lowered : goal.returns-clause-lowered
 returns-clause-lowered c =
     let source = source_of c.args.context.now in
     on_ok_weaker c.assign.result
-    (λ added cell local. lowers-named source (shape c.args.graph.now) (shape c.assign.new.graph) c.args.e.0 c.args.name.now c.args.to c.in_ok-from.from c.copied.result (ExprId c.args.e) c.requires.ready c.requires.form c.in_ok-from.ensures.lowered (c.copied.ensures ∙ ap Copy c.from.ensures) added cell local)
+    (λ added cell local. lowers-named source (shape c.args.graph.now) (shape c.assign.new.graph) c.args.e.0 c.args.name.now c.args.to c.in_ok-from.from c.copied.result (ExprId c.args.e) c.requires.ready c.requires.form c.in_ok-from.ensures.lowered (c.copied.ensures.kind ∙ ap Copy c.from.ensures) added cell local)
     c.assign.ensures.added
 
 pub returns-clause-built : goal.returns-clause-built

@@ -4,7 +4,7 @@ use Rattle.std.specs.Prelude.{List, slice_get}
 use Rattle.mir.specs.declared.ids.LocalId.{LocalId}
 use Rattle.types.specs.declared.ids.PatId.{PatId}
 use Rattle.body_forms.specs.Contexts.{source_of}
-use Rattle.mir_lower.specs.Graph.{shape}
+use Rattle.mir_graph.specs.Graph.{shape}
 use Rattle.mir_lower.specs.Refusals.{RefusesParameters}
 use Rattle.mir_lower.proofs.Parameters.{MarksNames, names-none, names-next, param-there, marked-sound, parameters-lowered, refuses-parameter}
 use Rattle.mir_lower.proofs.Refused.{refused-exit}

@@ -1,7 +1,7 @@
 -- The parameters so far are marked.
 use Rattle.std.proofs.Common.{take}
 use Rattle.body_forms.specs.Contexts.{source_of}
-use Rattle.mir_lower.specs.Graph.{shape}
+use Rattle.mir_graph.specs.Graph.{shape}
 use Rattle.mir_lower.proofs.Parameters.{MarksNames}
 use Rattle.mir_lower.proofs.params.lower_params.Given as goal
 

@@ -1,7 +1,7 @@
 -- The binding of `self` may not be one of the body's.
 use Rattle.std.proofs.Common.{sym, subst}
 use Rattle.body_forms.specs.Contexts.{source_of}
-use Rattle.mir_lower.specs.Graph.{shape}
+use Rattle.mir_graph.specs.Graph.{shape}
 use Rattle.mir_lower.specs.Refusals.{RefusesParameters}
 use Rattle.mir_lower.proofs.Parameters.{refuses-self}
 use Rattle.mir_lower.proofs.Refused.{refused-exit}

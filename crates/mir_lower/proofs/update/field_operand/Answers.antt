@@ -7,7 +7,7 @@ use Rattle.body_forms.specs.Form.{core_source}
 use Rattle.body_forms.specs.declared.structs.FieldSource.{FieldSource}
 use Rattle.mir_lower.specs.Updates.{AreFound, IsAmong}
 use Rattle.mir_lower.proofs.Updates.{found-projected, found-written, has-id, lacks-none}
-use Rattle.mir_lower.specs.Graph.{IsProjected, shape}
+use Rattle.mir_graph.specs.Graph.{shape}
 use Rattle.mir_lower.proofs.update.field_operand.Goals as goal
 
 pub unreachable-requires : goal.unreachable-requires
@@ -33,4 +33,4 @@ returns-in_ok-place-in-OfBase c =
     let made = c.in_ok-place-in-OfBase.place in
     let operand : Operand = record { kind = Copy made; span = None } in
     subst (λ (source : FieldSource). AreFound old new c.args.base c.args.operands.now (core_source source ∷ []) (operand ∷ [])) (sym c.in-OfBase.is)
-    (found-projected old new c.args.base made c.args.operands.now c.in-OfBase.field operand refl (subst (λ elem. IsProjected old new c.args.base elem made) c.place_elem.ensures c.in_ok-place-in-OfBase.ensures))
+    (found-projected old new c.args.base made c.args.operands.now c.in-OfBase.field operand refl refl c.in_ok-place-in-OfBase.ensures)

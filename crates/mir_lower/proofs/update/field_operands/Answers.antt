@@ -6,7 +6,7 @@ use Rattle.source_meaning.specs.Structs.{FieldSource as CoreSource}
 use Rattle.body_forms.specs.Form.{core_source}
 use Rattle.body_forms.specs.declared.structs.FieldSource.{FieldSource}
 use Rattle.body_forms.specs.declared.structs.FieldSource.TheVariants as source
-use Rattle.mir_lower.specs.Graph.{shape}
+use Rattle.mir_graph.specs.Graph.{shape}
 use Rattle.mir_lower.specs.Updates.{AreFound}
 use Rattle.mir_lower.proofs.Updates.{found-more, found-none, known-later}
 use Rattle.mir_lower.proofs.update.field_operands.Goals as goal

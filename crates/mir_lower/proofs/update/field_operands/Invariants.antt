@@ -2,7 +2,7 @@
 use Rattle.std.proofs.Common.{take}
 use Rattle.std.specs.Prelude.{map}
 use Rattle.body_forms.specs.Form.{core_source}
-use Rattle.mir_lower.specs.Graph.{shape}
+use Rattle.mir_graph.specs.Graph.{shape}
 use Rattle.mir_lower.specs.Updates.{AreFound}
 use Rattle.mir_lower.proofs.update.field_operands.Given as goal
 

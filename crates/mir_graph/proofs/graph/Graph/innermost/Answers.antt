@@ -1,10 +1,10 @@
 -- The loop or labelled block at a place is the one that the jump means, or one further out is.
 use Rattle.std.proofs.Common.{◌≡◌, suc, ◌-◌, Some, sym, ap, ◌∙◌, arith, take}
 use Rattle.std.specs.Prelude.{slice_get, if◌then◌else◌}
-use Rattle.mir_lower.specs.Graph.{target_of_blocks, targets_of, meant_target}
-use Rattle.mir_lower.proofs.Jumps.{meant-next}
-use Rattle.mir_lower.proofs.Lists.{at-index}
-use Rattle.mir_lower.proofs.graph.Graph.innermost.Goals as goal
+use Rattle.mir_graph.specs.Graph.{target_of_blocks, targets_of, meant_target}
+use Rattle.mir_graph.proofs.Lists.{at-index}
+use Rattle.mir_graph.proofs.Targets.{meant-next}
+use Rattle.mir_graph.proofs.graph.Graph.innermost.Goals as goal
 
 pub returns-then-is_meant : goal.returns-then-is_meant
 returns-then-is_meant c =

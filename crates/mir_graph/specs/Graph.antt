@@ -13,13 +13,13 @@ use Rattle.mir.specs.declared.operand.Place.{Place}
 use Rattle.mir.specs.declared.projection.ProjectionId.{ProjectionId}
 use Rattle.mir.specs.declared.statement.Statement.{Statement}
 use Rattle.source_meaning.specs.Around.{Opened, is_meant}
-use Rattle.source_meaning.specs.Source.{Cell, Result, Node, Binding, Never}
-use Rattle.mir_lower.specs.declared.graph.Graph.{Graph}
-use Rattle.mir_lower.specs.declared.graph.Held.{Held}
-use Rattle.mir_lower.specs.declared.graph.Held.TheVariants as held
-use Rattle.mir_lower.specs.declared.graph.LoopBlocks.{LoopBlocks}
-use Rattle.mir_lower.specs.declared.graph.Marked.{Marked}
-use Rattle.mir_lower.specs.declared.graph.Temps.{Temps}
+use Rattle.source_meaning.specs.Source.{Cell, IndexOf, Result, Node, Binding, Never}
+use Rattle.mir_graph.specs.declared.graph.Graph.{Graph}
+use Rattle.mir_graph.specs.declared.graph.Held.{Held}
+use Rattle.mir_graph.specs.declared.graph.Held.TheVariants as held
+use Rattle.mir_graph.specs.declared.graph.LoopBlocks.{LoopBlocks}
+use Rattle.mir_graph.specs.declared.graph.Marked.{Marked}
+use Rattle.mir_graph.specs.declared.graph.Temps.{Temps}
 
 -- A loop or a labelled block that is being lowered: which it is, the local that its value goes to, the block where it begins,
 -- the block behind it, and how many cells were in use when it was entered.
@@ -36,7 +36,8 @@ pub record Shape : Type 0 where
   pub locals : List Local
   -- for each binding its local, where no closure owns it
   pub bindings : List (Option LocalId)
-  -- for each expression the local that holds its value, and that of its `!`, where it is adjusted by `NeverToAny`
+  -- for each expression the local that holds its value, that of its `!`, where it is adjusted by `NeverToAny`, and that of its index, where it is an
+  -- index expression
   pub temps : List Temps
   -- the cells in use in all open scopes, those of the outermost scope first
   pub scope : List Cell
@@ -50,6 +51,7 @@ abbrev pub cell_of : Held → Cell
 cell_of (held.Expr e) = Node e.0
 cell_of (held.Binding b) = Binding b.0
 cell_of (held.Never e) = Never e.0
+cell_of (held.Index e) = IndexOf e.0
 
 -- the cells of marks
 abbrev pub cells_of : List Marked → List Cell
@@ -92,7 +94,7 @@ local_of_type ty = record { ty = ty }
 
 -- an expression without locals
 abbrev pub no_temps : Temps
-no_temps = record { value = None; never = None }
+no_temps = record { value = None; never = None; index = None }
 
 -- one current block, the return slot, no binding, and no expression with a local yet
 abbrev pub first_shape : Ty → ℕ → Shape
@@ -157,6 +159,10 @@ temp_of s e = temp_at (λ temps. temps.value) s.temps e
 unfoldable pub never_of : Shape → ℕ → Option ℕ
 never_of s e = temp_at (λ temps. temps.never) s.temps e
 
+-- the local that holds an expression's index, where it has one
+unfoldable pub index_local : Shape → ℕ → Option ℕ
+index_local s e = temp_at (λ temps. temps.index) s.temps e
+
 -- the local of a binding, where it has one
 unfoldable pub binding_local : Shape → ℕ → Option ℕ
 binding_local s b = local_at s.bindings b
@@ -167,6 +173,7 @@ local_of s Result = Some zero
 local_of s (Node e) = temp_of s e
 local_of s (Binding b) = binding_local s b
 local_of s (Never e) = never_of s e
+local_of s (IndexOf e) = index_local s e
 
 -- one more binding: where it has a type, a new local of that type is its own
 unfoldable pub with_binding : Option Ty → Shape → Shape
@@ -178,12 +185,15 @@ abbrev pub with_entry : (Temps → Temps) → List Temps → ℕ → Option Temp
 with_entry change table i (Some temps) = slice_set table i (change temps)
 with_entry change table i None = table
 
--- an expression's locals with another one for its value, or for its `!`
+-- an expression's locals with another one for its value, for its `!`, or for its index
 abbrev pub with_value : ℕ → Temps → Temps
 with_value local temps = record temps { value = Some (record { 0 = local }) }
 
 abbrev pub with_never_value : ℕ → Temps → Temps
 with_never_value local temps = record temps { never = Some (record { 0 = local }) }
+
+abbrev pub with_index_value : ℕ → Temps → Temps
+with_index_value local temps = record temps { index = Some (record { 0 = local }) }
 
 -- a new local for an expression
 unfoldable pub with_temp : ℕ → Ty → Shape → Shape
@@ -192,6 +202,10 @@ with_temp e ty s = record s { locals = s.locals ++ local_of_type ty ∷ []; temp
 -- a new local for the `!` of an expression
 unfoldable pub with_never : ℕ → Ty → Shape → Shape
 with_never e ty s = record s { locals = s.locals ++ local_of_type ty ∷ []; temps = with_entry (with_never_value (length s.locals)) s.temps e (slice_get s.temps e) }
+
+-- a new local for the index of an expression
+unfoldable pub with_index : ℕ → Ty → Shape → Shape
+with_index e ty s = record s { locals = s.locals ++ local_of_type ty ∷ []; temps = with_entry (with_index_value (length s.locals)) s.temps e (slice_get s.temps e) }
 
 -- other cells in use
 abbrev pub with_scope : List Cell → Shape → Shape

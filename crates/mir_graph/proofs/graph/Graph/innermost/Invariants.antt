@@ -1,7 +1,7 @@
 -- None of the loops and labelled blocks behind a place is the one that the jump means.
 use Rattle.std.proofs.Common.{◌≡◌, ◌≤◌, length, take}
-use Rattle.mir_lower.specs.Graph.{meant_target, targets_of}
-use Rattle.mir_lower.proofs.graph.Graph.innermost.Given as goal
+use Rattle.mir_graph.specs.Graph.{meant_target, targets_of}
+use Rattle.mir_graph.proofs.graph.Graph.innermost.Given as goal
 
 abbrev pub invariant-loop-left : goal.invariant-loop-left
 invariant-loop-left l = (l.left ≤ length l.self.loops.items) × (meant_target l.label (targets_of l.self.loops.items) ≡ meant_target l.label (targets_of (take l.left l.self.loops.items)))

@@ -1,11 +1,11 @@
-//! The graph that lowering builds: blocks, one of which is open, and locals.
+//! A graph that is being built: blocks, one of which is open, locals, the scopes that are open, and the projections of places.
 
 ghost use Rattle.std.specs.Prelude.{◌≡◌, ◌<◌, ◌≤◌, ◌^◌, ◌∷◌, ◌++◌, ℕ, List, length, IfOk, IfSome, IfNone, OnOk, Some, None, [], slice_get};
 ghost use Rattle.std.specs.Option.{option_map};
 ghost use Rattle.mir.specs.Projections.{HasId};
-ghost use Rattle.mir_lower.specs.Graph.{IsProjected, OpenTarget, with_targets, target_of_blocks, meant_target, shape, first_shape, with_statement, with_terminator, with_block, with_reserved, with_entered, with_binding, with_temp, with_mark, temp_of, binding_local, no_statements, cell_of, with_never, never_of};
+ghost use Rattle.mir_graph.specs.Graph.{IsProjected, OpenTarget, with_targets, target_of_blocks, meant_target, shape, first_shape, with_statement, with_terminator, with_block, with_reserved, with_entered, with_binding, with_temp, with_mark, temp_of, binding_local, no_statements, cell_of, with_never, never_of, with_index, index_local};
 ghost use Rattle.source_meaning.specs.Around.{is_meant};
-ghost use Rattle.source_meaning.specs.Source.{Node, Never};
+ghost use Rattle.source_meaning.specs.Source.{IndexOf, Node, Never};
 
 use mir::{
     BasicBlock, BasicBlockId, Interner, Local, LocalId, MirBody, Place, PlaceElem, ProjectionStore,
@@ -17,22 +17,31 @@ use world::{BindingId, DefWithBodyId, ExprId, LabelId, List, NoMemory, Ty};
 /// What a local holds the value of.
 #[derive(Clone, Copy)]
 pub enum Held {
+    /// An expression.
     Expr(ExprId),
+    /// What a name is bound to.
     Binding(BindingId),
     /// The `!` of an expression that is adjusted by `NeverToAny`.
     Never(ExprId),
+    /// The index of an index expression.
+    Index(ExprId),
 }
 
-/// The locals of an expression, where it has them: that of its value, and that of its `!`.
+/// The locals of an expression, where it has them.
 #[derive(Clone, Copy)]
 pub struct Temps {
+    /// That of its value.
     pub value: Option<LocalId>,
+    /// That of its `!`, where it is adjusted by `NeverToAny`.
     pub never: Option<LocalId>,
+    /// That of its index, where it is an index expression.
+    pub index: Option<LocalId>,
 }
 
 /// A local that came into use in a scope that is open.
 #[derive(Clone, Copy)]
 pub struct Marked {
+    /// What it holds the value of.
     pub held: Held,
     pub local: LocalId,
 }
@@ -40,7 +49,9 @@ pub struct Marked {
 /// A loop or a labelled block that is being lowered: what a jump to it needs.
 #[derive(Clone, Copy)]
 pub struct LoopBlocks {
+    /// The loop or the block as an expression.
     pub node: ExprId,
+    /// The label that it has.
     pub label: Option<LabelId>,
     /// Where it begins, and where `continue` leads.
     pub begin: BasicBlockId,
@@ -52,13 +63,14 @@ pub struct LoopBlocks {
     pub drop_scope: DropScopeToken,
 }
 
-/// How many locals were in use when a scope was opened. Those behind them are the scope's own.
+/// An open scope: how many locals were in use when it was opened. Those behind them are its own, and those of scopes inside it.
 #[derive(Clone, Copy)]
 pub struct DropScopeToken(pub usize);
 
-/// The blocks and locals so far.
+/// A graph that is being built. What a call does to it is said of its `shape`, in `specs/Graph.antt`.
 #[derive(Drop)]
 pub struct Graph {
+    /// The blocks so far, by their ids.
     pub blocks: Vec<BasicBlock>,
     /// The block that statements are added to.
     pub current: BasicBlockId,
@@ -66,7 +78,7 @@ pub struct Graph {
     pub locals: List<Local>,
     /// For each binding its local, where no closure owns it.
     pub bindings: Vec<Option<LocalId>>,
-    /// For each expression the local that holds its value, and that of its `!`.
+    /// For each expression the local that holds its value, that of its `!`, and that of its index.
     pub temps: Vec<Temps>,
     /// The locals in use in all open scopes, those of the outermost scope first.
     pub scope: Vec<Marked>,
@@ -108,6 +120,7 @@ impl Graph {
         let none = Temps {
             value: None,
             never: None,
+            index: None,
         };
         let temps = vec![in alloc; none; nodes as usize]?;
         Ok(Graph {
@@ -145,7 +158,7 @@ impl Graph {
         Ok(())
     }
 
-    /// Adds a statement to the open block.
+    /// Adds a statement to the open block, behind those that it has. The open block has to be one of the graph's.
     #[tactic(auto, unfolding(crate::specs::Graph::with_statement))]
     pub fn push_statement(&mut self, statement: Statement) -> Result<(), NoMemory>
         requires { self.old.current.0 < length self.old.blocks.items }
@@ -156,7 +169,7 @@ impl Graph {
         Ok(())
     }
 
-    /// Ends the open block.
+    /// Ends the open block by a terminator. The open block has to be one of the graph's, and it stays open.
     #[tactic(auto, unfolding(crate::specs::Graph::with_terminator))]
     pub fn set_terminator(&mut self, terminator: Terminator)
         requires { self.old.current.0 < length self.old.blocks.items }
@@ -238,6 +251,24 @@ impl Graph {
         Ok(local)
     }
 
+    /// A new local for the index of an index expression that has none yet. A local that would be the 2^32nd has no id: `NoMemory`.
+    #[tactic(auto, unfolding(crate::specs::Graph::with_index))]
+    fn new_index(&mut self, node: ExprId, ty: Ty) -> Result<LocalId, NoMemory>
+        requires { node.0 < length self.old.temps.items }
+        ensures local { IfOk result (λ local. local.0 ≡ length self.old.locals) }
+        ensures added { OnOk result (shape self.new ≡ with_index node.0 ty (shape self.old)) }
+    {
+        let count = self.locals.len();
+        if count >= u32::MAX as u64 {
+            return Err(NoMemory);
+        }
+        let local = LocalId(count as u32);
+        self.locals.push(Local { ty })?;
+        let temps = &mut self.temps[node.0 as usize];
+        temps.index = Some(local);
+        Ok(local)
+    }
+
     /// Marks a local as in use in the innermost open scope.
     pub fn mark(&mut self, held: Held, local: LocalId) -> Result<(), NoMemory>
         ensures marked { OnOk result (shape self.new ≡ with_mark (cell_of held) (shape self.old)) }
@@ -247,7 +278,8 @@ impl Graph {
         Ok(())
     }
 
-    /// The local of an expression in the innermost open scope: the one that it has, or else a new one.
+    /// The local of an expression's value, marked as in use in the innermost open scope: the one that it has, or else a new one of a
+    /// type. The expression has to be one of the body's. A local that would be the 2^32nd has no id: `NoMemory`.
     #[tactic(auto, unfolding(crate::specs::Graph::temp_of))]
     pub fn temp_for(&mut self, node: ExprId, ty: Ty) -> Result<LocalId, NoMemory>
         requires { node.0 < length self.old.temps.items }
@@ -264,7 +296,8 @@ impl Graph {
         Ok(local)
     }
 
-    /// The local of an expression's `!` in the innermost open scope: the one that it has, or else a new one.
+    /// The local of an expression's `!`, marked as in use in the innermost open scope: the one that it has, or else a new one of a
+    /// type. The expression has to be one of the body's. A local that would be the 2^32nd has no id: `NoMemory`.
     #[tactic(auto, unfolding(crate::specs::Graph::never_of))]
     pub fn never_for(&mut self, node: ExprId, ty: Ty) -> Result<LocalId, NoMemory>
         requires { node.0 < length self.old.temps.items }
@@ -281,7 +314,24 @@ impl Graph {
         Ok(local)
     }
 
-    /// The local of a binding, where it has one.
+    /// The local of an expression's index in the innermost open scope: the one that it has, or else a new one.
+    #[tactic(auto, unfolding(crate::specs::Graph::index_local))]
+    pub fn index_for(&mut self, node: ExprId, ty: Ty) -> Result<LocalId, NoMemory>
+        requires { node.0 < length self.old.temps.items }
+        ensures old { IfOk result (λ local. (l : ℕ) → index_local (shape self.old) node.0 ≡ Some l
+            → (local.0 ≡ l) × (shape self.new ≡ with_mark (IndexOf node.0) (shape self.old))) }
+        ensures new { IfOk result (λ local. index_local (shape self.old) node.0 ≡ None
+            → (local.0 ≡ length self.old.locals) × (shape self.new ≡ with_mark (IndexOf node.0) (with_index node.0 ty (shape self.old)))) }
+    {
+        let local = match self.temps[node.0 as usize].index {
+            Some(local) => local,
+            None => self.new_index(node, ty)?,
+        };
+        self.mark(Held::Index(node), local)?;
+        Ok(local)
+    }
+
+    /// The local of a binding, where it has one: none where a closure owns it, and none where the graph has no such binding.
     #[tactic(auto, unfolding(crate::specs::Graph::binding_local))]
     pub fn binding_local(&self, binding: BindingId) -> Option<LocalId>
         ensures { option_map (λ local. local.0) result ≡ binding_local (shape self.now) binding.0 }
@@ -299,7 +349,7 @@ impl Graph {
         DropScopeToken(self.scope.len())
     }
 
-    /// Takes back the last mark of a scope and of those inside it, where one is left.
+    /// Takes back the last mark of a scope and of those inside it, where one is left. It takes no memory.
     pub fn pop_mark(&mut self, token: DropScopeToken) -> Option<Marked>
         ensures last { IfSome result (λ marked. shape self.old ≡ with_mark (cell_of marked.held) (shape self.new)) }
         ensures local { IfSome result (λ marked. self.old.scope.items ≡ self.new.scope.items ++ marked ∷ []) }
@@ -346,7 +396,8 @@ impl Graph {
         None
     }
 
-    /// A place within another one: what an element leads to from there. A projection that would be the 2^32nd has no id: `NoMemory`.
+    /// A place within another one, whose projection is one of the graph's: what an element leads to from there. A projection that would
+    /// be the 2^32nd has no id: `NoMemory`.
     pub fn project(&mut self, place: Place, elem: PlaceElem) -> Result<Place, NoMemory>
         requires { HasId self.old.projections.projections place.projection }
         ensures { IfOk result (λ made. IsProjected (shape self.old) (shape self.new) place elem made) }
