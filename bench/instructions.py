@@ -1,10 +1,10 @@
 #!/usr/bin/env python3
-"""Counts the processor's instructions that a turn of a loop takes, or a call, and tells in which functions of the program.
+"""Counts the processor's instructions that a turn of a loop takes, a call, or a round of work on arrays, and tells in which functions of the program.
 
 usage: instructions.py [--program PATH] [--only NAME]... [--top N]
 
-The sources are those of `loops.py` and `calls.py`. Each is run under valgrind's callgrind twice, at a number and at twice that number; of
-both runs the first is taken off the second, so that what stands is that of the turns, or of the calls, between the two. The
+The sources are those of `loops.py`, `calls.py` and `elements.py`. Each is run under valgrind's callgrind twice, at a number and at twice that number; of
+both runs the first is taken off the second, so that what stands is that of the turns, of the calls or of the rounds between the two. The
 counts are the same on every run of the same program and input, whatever else the machine does: they tell where the time goes, and not how much.
 A function that the compiler put into another one counts for that one.
 """
@@ -17,6 +17,7 @@ import tempfile
 from pathlib import Path
 
 import calls
+import elements
 import loops
 
 # How many turns the first of the two runs has, and the source's number there: of Fibonacci this is the argument.
@@ -31,10 +32,12 @@ def fibonacci_calls(number):
 
 
 def pairs_of(name):
-    """The texts of the two files of a source, and how many turns or calls the second has more."""
+    """The texts of the two files of a source, and how many turns, calls or rounds the second has more."""
     if name == "fibonacci":
         more = fibonacci_calls(FIBONACCI + 2) - fibonacci_calls(FIBONACCI)
         return calls.source_of(name, FIBONACCI), calls.source_of(name, FIBONACCI + 2), more
+    if name in elements.SOURCES:
+        return elements.source_of(name, 1), elements.source_of(name, 2), 1
     source_of = calls.source_of if name in calls.SOURCES else loops.source_of
     return source_of(name, TURNS), source_of(name, 2 * TURNS), TURNS
 
@@ -56,7 +59,7 @@ def counts(program, text, folder):
 
 
 def report(program, name, top, folder):
-    """Prints what a turn or a call of a source takes, and the functions that take most of it."""
+    """Prints what a turn, a call or a round of a source takes, and the functions that take most of it."""
     first, second, more = pairs_of(name)
     one, two = counts(program, first, folder), counts(program, second, folder)
     each = {function: (two[function] - one.get(function, 0)) / more for function in two}
@@ -69,13 +72,13 @@ def report(program, name, top, folder):
 def main():
     parser = argparse.ArgumentParser(prog="instructions.py")
     parser.add_argument("--program", type=Path, default=loops.PROGRAM)
-    parser.add_argument("--only", action="append", choices=[*loops.SOURCES, *calls.SOURCES])
+    parser.add_argument("--only", action="append", choices=[*loops.SOURCES, *calls.SOURCES, *elements.SOURCES])
     parser.add_argument("--top", type=int, default=8)
     chosen = parser.parse_args()
     if not chosen.program.exists():
         sys.exit(f"instructions: there is no program {chosen.program}")
     with tempfile.TemporaryDirectory() as folder:
-        for name in chosen.only or [*loops.SOURCES, *calls.SOURCES]:
+        for name in chosen.only or [*loops.SOURCES, *calls.SOURCES, *elements.SOURCES]:
             report(chosen.program.resolve(), name, chosen.top, folder)
 
 

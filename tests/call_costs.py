@@ -23,10 +23,11 @@ DEFAULT_LIMITS = {"blocks": 10000000, "nesting": 100, "bytes": 1000000000}
 # How many bytes integers have by their names, and the others that casts are between.
 INTEGERS = {"8": 1, "16": 2, "32": 4, "64": 8, "128": 16, "size": 8}
 SIZES = {"Bool": 1, "Char": 4}
+USIZE = {"Uint": "Usize"}
 RESULT = ("result",)
-# The place of a part that a value lacks or that can't be found, and the faults of reading and writing there.
-NOWHERE = ("nowhere",)
+# The faults of reading and writing a part that a value lacks or that can't be found, and of using an element behind the end of its array.
 BAD_READ, BAD_WRITE = (f'UndefinedBehavior("out of bound memory {word}")' for word in ("read", "write"))
+OUT_OF_BOUNDS = 'Panic("Index out of bounds")'
 # Calls nest in Python as they do in the world.
 STACK, DEPTH = 512 * 2**20, 10**6
 
@@ -352,8 +353,8 @@ class Reading:
         return variant(self.exprs[e])[0] == name and self.never_target(e) is None
 
     def is_place(self, e):
-        """Whether an expression is a place: a name of the body, or a field."""
-        return self.is_a(e, "Field") or (self.is_a(e, "Path") and not self.names_unit(e))
+        """Whether an expression is a place: a name of the body, a field or an element."""
+        return self.is_a(e, "Field") or self.is_a(e, "Index") or (self.is_a(e, "Path") and not self.names_unit(e))
 
     def names_unit(self, e):
         """Whether a path is a value of a struct without fields."""
@@ -415,6 +416,14 @@ class Reading:
             if "StructId" not in parent or struct_in(self.value_type(part["expr"])) != (parent["StructId"], []):
                 raise Refusal(NOT_BUILT)
         self.place(part["expr"])
+
+    def own_index(self, e, part):
+        """An element of an array, by a `usize`. The index has a cell of its own, also where it is a literal or a name."""
+        if variant(self.value_type(part["base"]))[0] != "Array" or self.value_type(part["index"]) != USIZE:
+            raise Refusal(NOT_BUILT)
+        self.place(part["base"])
+        self.temp(("node", part["index"]))
+        self.into(part["index"])
 
     def value_type(self, e):
         """The type of an expression's value."""
@@ -494,10 +503,12 @@ class Reading:
     def compound_target(self, e):
         """The target of a compound assignment. One step in its adjustments isn't looked at."""
         name, part = variant(self.exprs[e])
-        if len(self.rows["expr_adjustments"].get(e, [])) > 1 or name not in ("Path", "Field"):
+        if len(self.rows["expr_adjustments"].get(e, [])) > 1 or name not in ("Path", "Field", "Index"):
             raise Refusal(NOT_BUILT)
         if name == "Field":
             self.own_field(e, part)
+        elif name == "Index":
+            self.own_index(e, part)
         elif self.names_unit(e):
             raise Refusal(NOT_BUILT)
         else:
@@ -653,10 +664,23 @@ class Frame:
 
 @dataclass
 class Part:
-    """A part of a tuple at a place: how far behind it the part begins, how many bytes it has, and its type."""
+    """A part of the value at a place: how far behind it the part begins, how many bytes it has, and its type. A part that the value lacks, or that
+    has no layout or no offset, has no start."""
 
     base: object
-    start: int
+    start: int | None
+    size: int
+    ty: object
+
+
+@dataclass
+class Element:
+    """An element of the array at a place: the cell that holds its index, which is read where the place is used, how many elements the array has, where
+    that is known, how many bytes each of them has, and their type."""
+
+    base: object
+    index: tuple
+    count: int | None
     size: int
     ty: object
 
@@ -809,31 +833,41 @@ class Run:
         return low_bytes(self.layouts[key(frame.body.infer["expr_types"][e])]["size"], number)
 
     def place(self, frame, e):
-        """The place that an expression is evaluated to: a cell, or a part of a tuple, as `Part`."""
+        """The place that an expression is evaluated to: a cell, a part of a tuple or a struct, as `Part`, or an element, as `Element`."""
         name, part = self.form(frame, e)
         if name == "Path" and not self.is_adjusted(frame, e) and not self.names_unit(frame, e):
             return ("binding", frame.body.rows["value_res"][e]["LocalBinding"])
         if name == "Field" and not self.is_adjusted(frame, e):
             return self.part_of(frame, e, part)
+        if name == "Index" and not self.is_adjusted(frame, e):
+            return self.element_of(frame, part)
         self.into(frame, e, ("node", e))
         return ("node", e)
 
     def part_of(self, frame, e, part):
         """The place of a field expression."""
-        base = self.place(frame, part["expr"])
-        return NOWHERE if base == NOWHERE else self.part_at(frame, base, frame.body.rows["field_res"][e])
+        return self.part_at(frame, self.place(frame, part["expr"]), frame.body.rows["field_res"][e])
+
+    def element_of(self, frame, part):
+        """The place of an index expression: its base's place, and then the index goes into its cell."""
+        base, index = self.place(frame, part["base"]), ("node", part["index"])
+        self.into(frame, part["index"], index)
+        whole = self.place_type(frame, base)
+        if whole is None or variant(whole)[0] != "Array":
+            return Part(base, None, 0, None)
+        ty = whole["Array"][0]
+        layout = self.layouts.get(key(ty))
+        return Part(base, None, 0, ty) if layout is None else Element(base, index, array_length(whole), layout["size"], ty)
 
     def part_at(self, frame, base, found):
-        """A part of a tuple or a field of a struct: its base's place, and which of its bytes. One that its base lacks, or that has no layout or
-        no offset, is nowhere."""
-        if base == NOWHERE:
-            return NOWHERE
-        whole, (types, number) = self.place_type(frame, base), self.step(found, self.place_type(frame, base))
+        """A part of a tuple or a field of a struct: its base's place, and which of its bytes."""
+        whole = self.place_type(frame, base)
+        types, number = ([], 0) if whole is None else self.step(found, whole)
         if number >= len(types):
-            return NOWHERE
+            return Part(base, None, 0, None)
         layouts = [self.layouts.get(key(ty)) for ty in (whole, types[number])]
         if None in layouts or number >= len(layouts[0].get("offsets", [])):
-            return NOWHERE
+            return Part(base, None, 0, types[number])
         start, size = layouts[0]["offsets"][number], layouts[1]["size"]
         if start + size > layouts[0]["size"]:
             raise Unknown("a part that ends behind its tuple")
@@ -849,8 +883,36 @@ class Run:
         return [row["ty"] for row in rows], field["local_id"]
 
     def place_type(self, frame, place):
-        """The type of a place."""
-        return place.ty if isinstance(place, Part) else self.type_of(frame.body, place)
+        """The type of a place, or None where its way leads to nothing."""
+        return place.ty if isinstance(place, (Part, Element)) else self.type_of(frame.body, place)
+
+    def number_at(self, frame, element):
+        """The index of an element now."""
+        return int.from_bytes(frame.cells[element.index], "little")
+
+    def is_past(self, frame, operand):
+        """Whether an index on the way to a place isn't below the length of its array."""
+        if isinstance(operand, Element):
+            is_last = operand.count is not None and self.number_at(frame, operand) >= operand.count
+            return is_last or self.is_past(frame, operand.base)
+        return isinstance(operand, Part) and self.is_past(frame, operand.base)
+
+    def use(self, frame, *operands):
+        """An operation uses these places and bytes, before it reads or writes any: an index out of bounds on the way to one of them is a panic."""
+        if any(self.is_past(frame, operand) for operand in operands):
+            raise Fault(OUT_OF_BOUNDS, frame.trail)
+
+    def lies(self, frame, place):
+        """Where a part or an element begins in its base, and its size, or None where it lies nowhere."""
+        if isinstance(place, Part):
+            return None if place.start is None else (place.start, place.size)
+        return None if place.count is None else (self.number_at(frame, place) * place.size, place.size)
+
+    def is_nowhere(self, frame, place):
+        """Whether a place is one that can't be found."""
+        if not isinstance(place, (Part, Element)):
+            return False
+        return self.lies(frame, place) is None or self.is_nowhere(frame, place.base)
 
     def operand(self, frame, e):
         """What an operation reads: bytes, or a place."""
@@ -859,15 +921,21 @@ class Run:
         return self.place(frame, e)
 
     def value(self, frame, operand):
-        """The bytes of an operand now."""
-        if operand == NOWHERE:
+        """The bytes of an operand now, which isn't out of bounds."""
+        if self.is_nowhere(frame, operand):
             raise Fault(BAD_READ, frame.trail)
-        if isinstance(operand, Part):
-            return self.value(frame, operand.base)[operand.start : operand.start + operand.size]
+        if isinstance(operand, (Part, Element)):
+            start, size = self.lies(frame, operand)
+            return self.value(frame, operand.base)[start : start + size]
         return operand if isinstance(operand, bytes) else frame.cells[operand]
 
+    def used(self, frame, *operands):
+        """The bytes of the operands of one operation now, which writes a whole cell."""
+        self.use(frame, *operands)
+        return [self.value(frame, operand) for operand in operands]
+
     def operand_type(self, frame, e):
-        """The type of an operand: a binding's, or that of a part of a tuple, where it is one."""
+        """The type of an operand: a binding's, or that of a part of a tuple or an element, where it is one."""
         name, part = self.form(frame, e)
         if self.is_adjusted(frame, e):
             return frame.body.rows["expr_adjustments"][e][0]["target"]
@@ -876,6 +944,8 @@ class Run:
         if name == "Field":
             types, number = self.step(frame.body.rows["field_res"][e], self.operand_type(frame, part["expr"]))
             return types[number]
+        if name == "Index":
+            return self.operand_type(frame, part["base"])["Array"][0]
         return frame.body.infer["expr_types"][e]
 
     def into(self, frame, e, cell):
@@ -888,18 +958,22 @@ class Run:
 
     def needs_place(self, frame, place):
         """A place that is written has to be there, before what goes there is read."""
-        if place == NOWHERE:
+        if self.is_nowhere(frame, place):
             raise Fault(BAD_WRITE, frame.trail)
 
     def write(self, frame, place, data):
-        """Writes a place. Around a part of a tuple everything stays as it is."""
-        if isinstance(place, Part):
-            if len(data) != place.size:
-                raise Unknown("a value that isn't as long as its part")
-            whole = self.value(frame, place.base)
-            self.write(frame, place.base, whole[: place.start] + data + whole[place.start + place.size :])
-        else:
-            self.put(frame, place, data)
+        """Writes a place. Around a part or an element everything stays as it is."""
+        cell, offset, size = place, 0, None
+        while isinstance(cell, (Part, Element)):
+            start, inner = self.lies(frame, cell)
+            cell, offset, size = cell.base, offset + start, inner if size is None else size
+        if size is None:
+            self.put(frame, cell, data)
+            return
+        if len(data) != size:
+            raise Unknown("a value that isn't as long as its part")
+        whole = frame.cells[cell]
+        self.put(frame, cell, whole[:offset] + data + whole[offset + size :])
 
     def own(self, frame, e, cell):
         name, part = self.form(frame, e)
@@ -914,10 +988,13 @@ class Run:
         self.put(frame, cell, frame.cells[("binding", frame.body.rows["value_res"][e]["LocalBinding"])])
 
     def own_field(self, frame, e, part, cell):
-        self.put(frame, cell, self.value(frame, self.part_of(frame, e, part)))
+        self.put(frame, cell, *self.used(frame, self.part_of(frame, e, part)))
+
+    def own_index(self, frame, e, part, cell):
+        self.put(frame, cell, *self.used(frame, self.element_of(frame, part)))
 
     def own_unaryop(self, frame, e, part, cell):
-        given = self.value(frame, self.operand(frame, part["expr"]))
+        [given] = self.used(frame, self.operand(frame, part["expr"]))
         kind = kind_of(self.operand_type(frame, part["expr"]))
         if kind in ("char", None):
             raise Fault(UNDEFINED, frame.trail)
@@ -930,7 +1007,7 @@ class Run:
         self.put(frame, cell, made)
 
     def own_cast(self, frame, e, part, cell):
-        given = self.value(frame, self.operand(frame, part["expr"]))
+        [given] = self.used(frame, self.operand(frame, part["expr"]))
         if part["expr"] not in frame.body.rows["coercion_casts"]:
             number = number_of(kind_of(self.operand_type(frame, part["expr"])), given)
             given = low_bytes(fixed_size(frame.body.infer["expr_types"][e]), number)
@@ -953,7 +1030,7 @@ class Run:
             given[names.index(one["name"])] if one["name"] in names else self.part_at(frame, base, kept[place])
             for place, one in enumerate(fields)
         ]
-        self.laid(frame, e, [self.value(frame, operand) for operand in operands], cell)
+        self.laid(frame, e, self.used(frame, *operands), cell)
 
     def laid(self, frame, e, parts, cell):
         """A value with parts, which are put in order to their offsets in zero bytes."""
@@ -985,8 +1062,7 @@ class Run:
 
     def values(self, frame, exprs):
         """The values of operands, which are read once all are evaluated."""
-        given = [self.operand(frame, e) for e in exprs]
-        return [self.value(frame, operand) for operand in given]
+        return self.used(frame, *[self.operand(frame, e) for e in exprs])
 
     def own_binaryop(self, frame, e, part, cell):
         name, op = variant(part["op"])
@@ -995,10 +1071,9 @@ class Run:
             return
         left = self.operand(frame, part["lhs"])
         if name == "LogicOp":
-            self.logic(frame, part, op, self.value(frame, left), cell)
+            self.logic(frame, part, op, *self.used(frame, left), cell)
             return
-        right = self.operand(frame, part["rhs"])
-        left, right = self.value(frame, left), self.value(frame, right)
+        left, right = self.used(frame, left, self.operand(frame, part["rhs"]))
         kinds = [kind_of(self.operand_type(frame, part[side])) for side in ("lhs", "rhs")]
         if name == "CmpOp" and not are_compared(kinds, left, right):
             raise Fault(UNDEFINED, frame.trail)
@@ -1022,6 +1097,7 @@ class Run:
         written."""
         target = self.compound_place(frame, part["lhs"])
         given = self.operand(frame, part["rhs"])
+        self.use(frame, target, given)
         self.needs_place(frame, target)
         left, right = self.value(frame, target), self.value(frame, given)
         kinds = [kind_of(ty) for ty in (self.place_type(frame, target), self.operand_type(frame, part["rhs"]))]
@@ -1032,6 +1108,8 @@ class Run:
         name, part = self.form(frame, e)
         if name == "Field":
             return self.part_of(frame, e, part)
+        if name == "Index":
+            return self.element_of(frame, part)
         return ("binding", frame.body.rows["value_res"][e]["LocalBinding"])
 
     def logic(self, frame, part, op, left, cell):
@@ -1043,7 +1121,7 @@ class Run:
         self.enter(frame)
 
     def own_if(self, frame, e, part, cell):
-        condition = self.value(frame, self.operand(frame, part["condition"]))
+        [condition] = self.used(frame, self.operand(frame, part["condition"]))
         self.enter(frame)
         branch = part["then_branch"] if condition[0] == 1 else part.get("else_branch")
         if branch is not None:
@@ -1058,6 +1136,7 @@ class Run:
             target = self.place(frame, inside)
         else:
             target = ("binding", frame.body.rows["pat_value_res"][part["target"]]["LocalBinding"])
+        self.use(frame, target, given)
         self.needs_place(frame, target)
         self.write(frame, target, self.value(frame, given))
 
@@ -1087,7 +1166,7 @@ class Run:
             else:
                 given = self.place(frame, inside["initializer"])
                 binding = frame.body.body["pats"][inside["pat"]]["Bind"]["id"]
-                self.put(frame, ("binding", binding), self.value(frame, given))
+                self.put(frame, ("binding", binding), *self.used(frame, given))
         if part.get("tail") is not None:
             self.into(frame, part["tail"], cell)
         self.enter(frame, frame.body.drops[e])
@@ -1137,7 +1216,9 @@ class Run:
         try:
             callee = self.read({"FunctionId": function})
         except Refusal as refusal:
+            self.use(frame, *given)
             raise Fault(f"MirLowerError(fn#{function}, {refusal})", trail) from None
+        self.use(frame, *given)
         if marked and self.levels == self.limits["nesting"]:
             raise Fault("StackOverflow", frame.trail)
         try:

@@ -183,7 +183,29 @@ def nested_arrays(depth):
     return [literal(7), *(array_expr(place) for place in range(depth))], types
 
 
-FORMS = {"if": nested_ifs, "loop": nested_loops, "block": nested_blocks, "tuple": nested_tuples, "array": nested_arrays}
+def nested_indices(depth):
+    """So many indices of arrays of the number 0 alone, each the index in the next one, around the number 0."""
+    exprs, types = [literal(0)], [USIZE]
+    for _ in range(depth):
+        inside = len(exprs) - 1
+        exprs += [literal(0), array_expr(inside + 1), filled(Index={"base": inside + 2, "index": inside})]
+        types += [USIZE, array_of(USIZE, 1), USIZE]
+    return exprs, types
+
+
+def nested_elements(depth):
+    """An array in so many arrays, each the one element of the next one, around the number 7, and as many indices, each of which is the base of the
+    next one, that lead to that number."""
+    exprs, types = nested_arrays(depth)
+    for _ in range(depth):
+        base = len(exprs) - 1
+        exprs += [literal(0), filled(Index={"base": base, "index": base + 1})]
+        types += [USIZE, types[base]["Array"][0]]
+    return exprs, types
+
+
+FORMS = {"if": nested_ifs, "loop": nested_loops, "block": nested_blocks, "tuple": nested_tuples, "array": nested_arrays, "index": nested_indices,
+         "element": nested_elements}
 
 
 def deep(row):

@@ -8,7 +8,7 @@ about. A function has no parameters, and is evaluated as a constant that is its 
                                            it panics in its own body: the whole fault
     C    u8    panic    Overflow in Add    a function or a constant that it names panics, so that the fault also tells
                                            of the way there: the panic's word
-    D    u8    fails    index out of ..    it fails otherwise, for this cause in the compiler's words
+    D    u8    fails    a constant that..  it fails otherwise, for this cause in the compiler's words
     E    i8    differs  80                 rustc refuses it, and here it has this value, by a rule of
                                            `docs/DIFFERENCES.md`: unary minus wraps on the least number
 
@@ -44,6 +44,7 @@ WORDS = [
     (re.compile(r"attempt to shift left by `.*`, which would overflow$"), "Shl"),
     (re.compile(r"attempt to shift right by `.*`, which would overflow$"), "Shr"),
 ]
+OUT_OF_BOUNDS = re.compile(r"index out of bounds: the length is (\d+|usize::MAX) but the index is (\d+|usize::MAX)$")
 NEGATED = re.compile(r"attempt to negate `(i\d+|isize)::MIN`, which would overflow$")
 PANICKED = re.compile(r"evaluation panicked: (.*)", re.DOTALL)
 
@@ -253,7 +254,9 @@ def _printed_line(line):
 
 def panic_word(message):
     """The word of a panic, as the program has it, of one that the compiler tells of, and whether it is one of an
-    operator; the word is None where there is none."""
+    operator or an index; the word is None where there is none."""
+    if OUT_OF_BOUNDS.search(message):
+        return "Index out of bounds", True
     found = OVERFLOW.search(message)
     if found and found.group(1) in OPERATORS:
         return f"Overflow in {OPERATORS[found.group(1)]}", True

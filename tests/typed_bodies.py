@@ -282,9 +282,17 @@ class Draft:
         return made
 
     def index(self, base, index, ty):
-        """An element, of any type, of a value of any type."""
-        inside = self.expr(base, Unknown())
-        return self.add({"Index": {"base": inside, "index": self.expr(index, "usize")}}, ty)
+        """An element. That of an array is of the type of its elements, and what isn't of an array's type has elements of any type. An index is of
+        type `usize`, where nothing else says its type."""
+        whole, number = Unknown(), Unknown()
+        inside = self.expr(base, whole)
+        found = known(whole)
+        if isinstance(found, tuple) and found[0] == "array":
+            same(ty, found[1])
+        place = self.expr(index, number)
+        if isinstance(known(number), Unknown):
+            same(number, "usize")
+        return self.add({"Index": {"base": inside, "index": place}}, ty)
 
     def path(self, name, ty):
         """A name, which may be one that nothing has, or that of a struct without fields."""
