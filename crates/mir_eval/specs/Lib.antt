@@ -4,6 +4,5 @@ pub mod Evaluators
 pub mod Frames
 pub mod Machine
 pub mod Phases
-pub mod Reads
 pub mod Start
 pub mod Steps

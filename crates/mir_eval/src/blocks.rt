@@ -2,29 +2,30 @@
 
 ghost use Rattle.std.specs.Prelude.{◌≡◌, ◌<◌, ◌≤◌, ◌∷◌, [], IfNone, IfSome, IsSome, None, OnOk, Ok, Option, Some, slice_get, option_and_then};
 ghost use Rattle.mir.specs.declared.body.Terminator.{Terminator};
+ghost use Rattle.mir.specs.Memory.{cell_bytes};
 ghost use Rattle.mir.specs.Run.{GoesTo, terminated, next_from, entering};
 ghost use Rattle.mir_rows.specs.Rows.{HasRows, IsWay};
+ghost use Rattle.mir_rows.specs.Spots.{spot_cell};
 ghost use Rattle.mir_eval.specs.Machine.{call_at, call_of, terminator_at};
 ghost use Rattle.mir_eval.specs.declared.steps.Exit.TheVariants.{Calls};
 ghost use Rattle.mir_eval.specs.Frames.{code_in, frame_of};
-ghost use Rattle.mir_eval.specs.Reads.{HoldsAt};
 ghost use Rattle.mir_eval.specs.Steps.{next_of, Halts, HaltsAtCall, OrNoMemory};
 
 use crate::cells::read;
 use crate::faults::Fault;
 use crate::frames::StackFrame;
-use crate::rows::{find, run_rows};
+use crate::rows::run_rows;
 use crate::steps::{Exit, Halt, Stop, terminate};
 use mir::{BasicBlockId, Terminator};
 use mir_mem::{Memory, whole};
-use mir_rows::{BlockRows, Spot, Way};
+use mir_rows::{BlockRows, Spot, Way, spot_cell};
 
-/// The one byte of the value at a spot, where it has one that can be read, and is within bounds.
+/// The one byte of the value at a spot, where it has one that can be read.
 #[inline(always)]
 fn byte_at<M: Memory>(frame: StackFrame<'_, '_>, memory: &M, spot: &Spot) -> Option<u8>
-    ensures { IfSome result (λ byte. HoldsAt (frame_of frame.entry) (M.areas memory.now) spot.now (byte ∷ [])) }
+    ensures { IfSome result (λ byte. option_and_then (cell_bytes (M.areas memory.now)) (spot_cell frame.entry.cells.now spot.now) ≡ Some (byte ∷ [])) }
 {
-    let cell = find(frame, memory, spot)?;
+    let cell = spot_cell(frame.cells, *spot)?;
     let view = read(memory, cell)?;
     let bytes = whole(&view)?;
     if bytes.len() == 1 {

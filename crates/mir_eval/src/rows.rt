@@ -1,70 +1,37 @@
 //! Statements by their rows: an operator on two operands of one kind, a copy, and a constant are done without a look at the body.
 
-ghost use Rattle.std.specs.Prelude.{◌≡◌, IfNone, IfSome, Ok, Some};
+ghost use Rattle.std.specs.Prelude.{◌≡◌, IfNone, IfSome, Ok, Some, option_and_then};
 ghost use Rattle.std.specs.List.{concat};
+ghost use Rattle.mir.specs.declared.body.BasicBlock.{BasicBlock};
 ghost use Rattle.mir.specs.declared.operand.OperandKind.{OperandKind};
 ghost use Rattle.mir.specs.declared.statement.Statement.{Statement};
 ghost use Rattle.mir.specs.declared.statement.StatementKind.{StatementKind};
-ghost use Rattle.mir.specs.Run.{after_statement, after_statements, copied};
+ghost use Rattle.mir.specs.Memory.{cell_bytes};
+ghost use Rattle.mir.specs.Run.{after_statement, after_statements, copied, operand_bytes, operand_type, operated, read};
 ghost use Rattle.mir_ops.specs.Made.{made_bytes};
-ghost use Rattle.mir_rows.specs.declared.spots.Spot.TheVariants.{Indexed};
-ghost use Rattle.mir_rows.specs.Rows.{AreOperands, AreRows, IsRow, IsSource, Says};
+ghost use Rattle.mir_rows.specs.Rows.{short_bytes, AreOperands, AreRows, IsRow, IsSource, Says};
+ghost use Rattle.mir_rows.specs.Spots.{spot_cell};
 ghost use Rattle.mir_eval.specs.Frames.{code_in, frame_of};
-ghost use Rattle.mir_eval.specs.Reads.{HasBytes, LiesIn, Makes};
 ghost use Rattle.mir_eval.specs.Steps.{left_with, OrNoMemory};
 
-use crate::cells::{Held, copy, read, write};
+use crate::cells::{copy, read, write};
 use crate::faults::Fault;
 use crate::frames::StackFrame;
 use crate::steps::execute;
-use mir::{BasicBlock, BinOp, Interval};
+use mir::{BasicBlock, BinOp};
 use mir_mem::{Memory, View, whole};
 use mir_ops::{Made, byte_of, bytes1, bytes2, bytes4, bytes8, bytes16, made_of};
-use mir_rows::{
-    Action, Element, Row, Source, Spot, cell_of, cell_of_element, cell_of_spot, part_of_local,
-};
+use mir_rows::{Action, Row, Short, Source, Spot, cell_of, cell_of_spot, part_of_local};
 use numbers::Kind;
 
-/// Where a spot lies now, where it is within bounds.
-#[inline(always)]
-pub(crate) fn find<M: Memory>(
-    frame: StackFrame<'_, '_>,
-    memory: &M,
-    spot: &Spot,
-) -> Option<Interval>
-    ensures { IfSome result (LiesIn (frame_of frame.entry) (M.areas memory.now) spot.now) }
-{
-    let numbers = Held {
-        memory,
-        cells: frame.cells,
-    };
-    cell_of_spot(&numbers, frame.cells, spot)
-}
-
-/// Where the value behind indices lies now, where it is within bounds.
-#[inline(always)]
-fn find_element<M: Memory>(
-    frame: StackFrame<'_, '_>,
-    memory: &M,
-    element: &Element,
-) -> Option<Interval>
-    ensures { IfSome result (LiesIn (frame_of frame.entry) (M.areas memory.now) (Indexed element.now)) }
-{
-    let numbers = Held {
-        memory,
-        cells: frame.cells,
-    };
-    cell_of_element(&numbers, frame.cells, element)
-}
-
-/// The bytes of a source now, where it has some, and is within bounds.
+/// The bytes of a source now, where it has some.
 #[inline(always)]
 fn source<'r, M: Memory>(
     frame: StackFrame<'_, '_>,
     memory: &'r M,
     source: &'r Source,
 ) -> Option<View<'r>>
-    ensures { IfSome result (λ view. (operand : OperandKind) → IsSource (code_in (frame_of frame.entry)) source.now operand → HasBytes (frame_of frame.entry) (M.areas memory.now) operand (concat view)) }
+    ensures { IfSome result (λ view. (operand : OperandKind) → IsSource (code_in (frame_of frame.entry)) source.now operand → operand_bytes (frame_of frame.entry) (M.areas memory.now) operand ≡ Some (concat view)) }
 {
     let cell = match source {
         Source::Whole(local) => cell_of(frame.cells, *local)?,
@@ -73,7 +40,6 @@ fn source<'r, M: Memory>(
             offset,
             size,
         } => part_of_local(frame.cells, *local, *offset, *size)?,
-        Source::Indexed(element) => find_element(frame, memory, element)?,
         Source::Constant(short) => return Some(View::of(short.bytes())),
     };
     read(memory, cell)
@@ -90,7 +56,7 @@ fn combine<M: Memory>(
     left: &Source,
     right: &Source,
 ) -> Option<Made>
-    ensures { IfSome result (λ made. (one other : OperandKind) → AreOperands (code_in (frame_of frame.entry)) kind left.now right.now one other → Makes (frame_of frame.entry) (M.areas memory.now) op one other (made_bytes made)) }
+    ensures { IfSome result (λ made. (one other : OperandKind) → AreOperands (code_in (frame_of frame.entry)) kind left.now right.now one other → operated op (operand_type frame.entry.program.now.db.now frame.entry.body.now.body one) (operand_type frame.entry.program.now.db.now frame.entry.body.now.body other) (operand_bytes (frame_of frame.entry) (M.areas memory.now) one) (operand_bytes (frame_of frame.entry) (M.areas memory.now) other) ≡ Ok (made_bytes made)) }
 {
     let left_view = source(frame, memory, left)?;
     let right_view = source(frame, memory, right)?;
@@ -99,11 +65,20 @@ fn combine<M: Memory>(
     made_of(op, kind, left_bytes, right_bytes)
 }
 
-/// Writes a number or a truth value to the start of a cell.
+/// Assigns a number or a truth value to a spot.
 #[inline(always)]
-fn assign_made<M: Memory>(memory: &mut M, to: Interval, made: Made) -> Result<(), Fault>
-    ensures { left_with (M.areas memory.new) result ≡ copied (M.areas memory.old) (Some to) (Ok (made_bytes made)) }
+#[tactic(auto, unfolding(mir::specs::Run::copied))]
+fn assign_made<M: Memory>(
+    frame: StackFrame<'_, '_>,
+    memory: &mut M,
+    to: &Spot,
+    made: Made,
+) -> Result<(), Fault>
+    ensures { left_with (M.areas memory.new) result ≡ copied (M.areas memory.old) (spot_cell frame.entry.cells.now to.now) (Ok (made_bytes made)) }
 {
+    let Some(to) = cell_of_spot(frame.cells, to) else {
+        return Err(Fault::BadWrite);
+    };
     match made {
         Made::Word1(word) => write(memory, to, &bytes1(word)),
         Made::Word2(word) => write(memory, to, &bytes2(word)),
@@ -111,6 +86,43 @@ fn assign_made<M: Memory>(memory: &mut M, to: Interval, made: Made) -> Result<()
         Made::Word8(word) => write(memory, to, &bytes8(word)),
         Made::WideWord(word) => write(memory, to, &bytes16(word)),
         Made::Truth(truth) => write(memory, to, &byte_of(truth)),
+    }
+}
+
+/// Copies the value at a spot to another one.
+#[inline(always)]
+#[tactic(auto, unfolding(mir::specs::Run::copied))]
+fn copy_value<M: Memory>(
+    frame: StackFrame<'_, '_>,
+    memory: &mut M,
+    to: &Spot,
+    from: &Spot,
+) -> Result<(), Fault>
+    ensures { left_with (M.areas memory.new) result ≡ copied (M.areas memory.old) (spot_cell frame.entry.cells.now to.now) (read (option_and_then (cell_bytes (M.areas memory.old)) (spot_cell frame.entry.cells.now from.now))) }
+{
+    match cell_of_spot(frame.cells, to) {
+        Some(to) => match cell_of_spot(frame.cells, from) {
+            Some(from) => copy(memory, from, to),
+            None => Err(Fault::BadRead),
+        },
+        None => Err(Fault::BadWrite),
+    }
+}
+
+/// Assigns a constant to a spot.
+#[inline(always)]
+#[tactic(auto, unfolding(mir::specs::Run::copied))]
+fn put<M: Memory>(
+    frame: StackFrame<'_, '_>,
+    memory: &mut M,
+    to: &Spot,
+    value: &Short,
+) -> Result<(), Fault>
+    ensures { left_with (M.areas memory.new) result ≡ copied (M.areas memory.old) (spot_cell frame.entry.cells.now to.now) (Ok (short_bytes value.now)) }
+{
+    match cell_of_spot(frame.cells, to) {
+        Some(to) => write(memory, to, value.bytes()),
+        None => Err(Fault::BadWrite),
     }
 }
 
@@ -133,18 +145,10 @@ fn act<M: Memory>(
             right,
         } => {
             let made = combine(frame, memory, *op, *kind, left, right)?;
-            let to = find(frame, memory, to)?;
-            Some(assign_made(memory, to, made))
+            Some(assign_made(frame, memory, to, made))
         }
-        Action::Copy { to, from } => {
-            let to = find(frame, memory, to)?;
-            let from = find(frame, memory, from)?;
-            Some(copy(memory, from, to))
-        }
-        Action::Put { to, value } => {
-            let to = find(frame, memory, to)?;
-            Some(write(memory, to, value.bytes()))
-        }
+        Action::Copy { to, from } => Some(copy_value(frame, memory, to, from)),
+        Action::Put { to, value } => Some(put(frame, memory, to, value)),
         Action::Other => None,
     }
 }

@@ -45,7 +45,6 @@ constant_in (operand.Constant konst ty) = constant_bytes konst
 abbrev pub IsSource : Prepared → Source → OperandKind → Type 0
 IsSource code (source.Whole local) kind = LiesAt code (spot.Whole local) kind
 IsSource code (source.Part local offset size) kind = LiesAt code (spot.Part local offset size) kind
-IsSource code (source.Indexed element) kind = LiesAt code (spot.Indexed element) kind
 IsSource code (source.Constant short) kind = constant_in kind ≡ Some (short_bytes short)
 
 -- two sources are what two operands say, and the bytes of both are of a kind

@@ -46,7 +46,6 @@ fn source(db: &HirDatabase, body: &MirBody, operand: &OperandKind) -> Option<Sou
                 offset,
                 size,
             }),
-            Spot::Indexed(element) => Some(Source::Indexed(element)),
         },
         OperandKind::Constant { konst, .. } => {
             Some(Source::Constant(short(constant_bytes(konst)?)?))

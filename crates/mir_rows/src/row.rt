@@ -2,7 +2,7 @@
 
 ghost use Rattle.std.specs.Prelude.{◌≡◌, ◌≤◌, take};
 
-use crate::spots::{Element, Spot};
+use crate::spots::Spot;
 use mir::{BasicBlockId, BinOp, LocalId};
 use numbers::Kind;
 
@@ -24,7 +24,7 @@ impl Short {
     }
 }
 
-/// What an operator reads: the value of a local, so many bytes of one from an offset on, what lies behind indices, or a constant. Where the value lies isn't a `Spot`
+/// What an operator reads: the value of a local, so many bytes of one from an offset on, or a constant. Where the value lies isn't a `Spot`
 /// of its own, so that a run has one test for each operand.
 #[derive(Clone, Copy, PartialEq, Eq, Debug)]
 pub enum Source {
@@ -34,7 +34,6 @@ pub enum Source {
         offset: u64,
         size: u64,
     },
-    Indexed(Element),
     Constant(Short),
 }
 

@@ -1,28 +1,18 @@
 //! Spots: where the values of places lie in the cells of locals, read off a body and its world once.
 
-ghost use Rattle.std.specs.Prelude.{◌≡◌, ◌^◌, ◌<◌, IfSome, option_and_then, slice_get};
-ghost use Rattle.std.specs.Option.{option_copied};
+ghost use Rattle.std.specs.Prelude.{◌≡◌, ◌^◌, ◌<◌, IfSome};
 ghost use Rattle.mir.specs.Addresses.{moved, usize_of};
 ghost use Rattle.mir.specs.Places.{part_of_cell};
 ghost use Rattle.mir_rows.specs.Places.{HasEnd, HaveEnds};
-ghost use Rattle.mir_rows.specs.declared.spots.Spot.TheVariants.{Indexed};
-ghost use Rattle.mir_rows.specs.Spots.{prepared, IsBehind, IsSpot, LiesNow};
+ghost use Rattle.mir_rows.specs.declared.spots.Spot.TheVariants.{Part};
+ghost use Rattle.mir_rows.specs.Spots.{prepared, spot_cell, IsSpot};
 
-use crate::arrays::{NoNumbers, Numbers};
+use crate::arrays::NoNumbers;
 use crate::places::{cell_of, elements, local_type, offset_behind, type_behind};
-use crate::steps::{Reach, reach_of, start};
-use mir::{Address, Interval, LocalId, MirBody, Place, PlaceElem};
-use world::{HirDatabase, Ty};
+use mir::{Address, Interval, LocalId, MirBody, Place};
+use world::HirDatabase;
 
-/// Where the value of a place behind indices lies: in so many bytes of a local's cell from where a reach leads on.
-#[derive(Clone, Copy, PartialEq, Eq, Debug)]
-pub struct Element {
-    pub local: LocalId,
-    pub size: u64,
-    pub reach: Reach,
-}
-
-/// Where the value of a place lies: in the whole cell of a local, in so many bytes of it from an offset on, or behind indices.
+/// Where the value of a place lies: in the whole cell of a local, or in so many bytes of it from an offset on.
 #[derive(Clone, Copy, PartialEq, Eq, Debug)]
 pub enum Spot {
     Whole(LocalId),
@@ -31,34 +21,9 @@ pub enum Spot {
         offset: u64,
         size: u64,
     },
-    Indexed(Element),
 }
 
-/// The spot that elements lead to from a local of a type, where the last leads to a value of a size: by an offset of 64 bits, or by at most two indices.
-fn spot_behind(
-    db: &HirDatabase,
-    local: LocalId,
-    elements: &[PlaceElem],
-    ty: Option<&Ty>,
-    size: u64,
-) -> Option<Spot>
-    ensures { IfSome result (λ spot. IsBehind db.now local elements.now (option_copied ty.entry) size spot) }
-{
-    match offset_behind(db, &NoNumbers, elements, ty) {
-        Some(offset) => Some(Spot::Part {
-            local,
-            offset: u64::try_from(offset).ok()?,
-            size,
-        }),
-        None => Some(Spot::Indexed(Element {
-            local,
-            size,
-            reach: reach_of(db, elements, ty)?,
-        })),
-    }
-}
-
-/// Where the value of a place lies, as the layouts of the world say it, where an offset of 64 bits leads there, or at most two indices do.
+/// Where the value of a place lies, as the layouts of the world say it, where an offset of 64 bits leads there, and no index.
 pub(crate) fn spot_of(db: &HirDatabase, body: &MirBody, place: Place) -> Option<Spot>
     ensures { IfSome result (λ spot. IsSpot (prepared db.now body.now) place spot) }
 {
@@ -70,9 +35,17 @@ pub(crate) fn spot_of(db: &HirDatabase, body: &MirBody, place: Place) -> Option<
         return Some(Spot::Whole(place.local));
     }
     let ty = local_type(body, place.local);
+    let offset = offset_behind(db, &NoNumbers, elements, ty)?;
     let seen = type_behind(db, elements, ty)?;
     let layout = db.layout_of(seen)?;
-    spot_behind(db, place.local, elements, ty, layout.size)
+    if offset > u64::MAX as u128 {
+        return None;
+    }
+    Some(Spot::Part {
+        local: place.local,
+        offset: offset as u64,
+        size: layout.size,
+    })
 }
 
 /// The address that is a number of bytes further on.
@@ -111,7 +84,7 @@ pub(crate) fn part(cell: Interval, offset: u64, size: u64) -> Option<Interval>
 #[inline(never)]
 pub fn part_of_local(cells: &[Interval], local: LocalId, offset: u64, size: u64) -> Option<Interval>
     requires { HaveEnds cells.now }
-    ensures { result ≡ option_and_then (λ cell. part_of_cell cell offset size) (slice_get cells.now local.0) }
+    ensures { result ≡ spot_cell cells.now (Part local offset size) }
 {
     match cell_of(cells, local) {
         Some(cell) => part(cell, offset, size),
@@ -119,33 +92,30 @@ pub fn part_of_local(cells: &[Interval], local: LocalId, offset: u64, size: u64)
     }
 }
 
-/// Where the value of a place behind indices lies now, where it is within bounds.
-#[inline(never)]
-pub fn cell_of_element<N: Numbers>(
-    numbers: &N,
-    cells: &[Interval],
-    element: &Element,
-) -> Option<Interval>
-    requires { HaveEnds cells.now }
-    ensures { IfSome result (LiesNow (N.held numbers.now) cells.now (Indexed element.now)) }
-{
-    let offset = start(numbers, &element.reach)?;
-    part_of_local(cells, element.local, offset, element.size)
-}
-
-/// Where a spot lies now, where it is within bounds. A whole cell is found first.
+/// Where a spot lies, by the cells of the locals.
 #[inline(always)]
-pub fn cell_of_spot<N: Numbers>(numbers: &N, cells: &[Interval], spot: &Spot) -> Option<Interval>
+pub fn spot_cell(cells: &[Interval], spot: Spot) -> Option<Interval>
     requires { HaveEnds cells.now }
-    ensures { IfSome result (LiesNow (N.held numbers.now) cells.now spot.now) }
+    ensures { result ≡ spot_cell cells.now spot }
 {
     match spot {
-        Spot::Whole(local) => cell_of(cells, *local),
+        Spot::Whole(local) => cell_of(cells, local),
         Spot::Part {
             local,
             offset,
             size,
-        } => part_of_local(cells, *local, *offset, *size),
-        Spot::Indexed(element) => cell_of_element(numbers, cells, element),
+        } => part_of_local(cells, local, offset, size),
+    }
+}
+
+/// Where a spot lies, by the cells of the locals. A whole cell is found first.
+#[inline(always)]
+pub fn cell_of_spot(cells: &[Interval], spot: &Spot) -> Option<Interval>
+    requires { HaveEnds cells.now }
+    ensures { result ≡ spot_cell cells.now spot.now }
+{
+    match spot {
+        Spot::Whole(local) => cell_of(cells, *local),
+        Spot::Part { .. } => spot_cell(cells, *spot),
     }
 }
