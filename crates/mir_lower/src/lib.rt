@@ -10,7 +10,6 @@ mod leave;
 mod locals;
 mod lower;
 mod params;
-mod simple;
 mod update;
 
 pub use body::lower_to_mir;
