@@ -314,7 +314,8 @@ impl Graph {
         Ok(local)
     }
 
-    /// The local of an expression's index in the innermost open scope: the one that it has, or else a new one.
+    /// The local of an index expression's index, marked as in use in the innermost open scope: the one that it has, or else a new one of a
+    /// type. The expression has to be one of the body's. A local that would be the 2^32nd has no id: `NoMemory`.
     #[tactic(auto, unfolding(crate::specs::Graph::index_local))]
     pub fn index_for(&mut self, node: ExprId, ty: Ty) -> Result<LocalId, NoMemory>
         requires { node.0 < length self.old.temps.items }

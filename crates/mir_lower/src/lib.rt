@@ -10,6 +10,7 @@ mod leave;
 mod locals;
 mod lower;
 mod params;
+mod simple;
 mod update;
 
 pub use body::lower_to_mir;

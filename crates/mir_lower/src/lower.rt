@@ -1,6 +1,6 @@
 //! Lowering expressions: as an operand, to a place, and into a local.
 
-ghost use Rattle.std.specs.Prelude.{◌≡◌, ◌<◌, ◌∷◌, ℕ, false, length, [], IfOk, IfErr, OnOk, Some, None};
+ghost use Rattle.std.specs.Prelude.{◌≡◌, ◌∷◌, ℕ, false, length, [], IfOk, IfErr, OnOk, Some, None};
 ghost use Rattle.mir.specs.declared.errors.MirLowerError.TheVariants as refusal;
 ghost use Rattle.numbers.specs.declared.operator.Operator.{Operator};
 ghost use Rattle.world.specs.Checked.{IsCheckedBody};
@@ -12,7 +12,7 @@ ghost use Rattle.source_meaning.specs.Steps.{assigned_parts, assignee_parts, fie
 ghost use Rattle.world.specs.declared.body.Statement.TheVariants as statement_kind;
 ghost use Rattle.body_forms.specs.Callees.{callee_number};
 ghost use Rattle.body_forms.specs.Contexts.{source_of};
-ghost use Rattle.body_forms.specs.Form.{core_assigned, core_assignee, core_elem, core_form, core_value, literal_places, literal_sources};
+ghost use Rattle.body_forms.specs.Form.{core_assigned, core_assignee, core_elem, core_form, literal_places, literal_sources};
 ghost use Rattle.body_forms.specs.declared.form.Form.TheVariants.{Struct, Update};
 ghost use Rattle.mir_graph.specs.Graph.{shape, local_of};
 ghost use Rattle.mir_lower.specs.Growth.{HasIndex, IsPlaced, IsReady, ArePartsReady, IsReadyPart};
@@ -31,12 +31,13 @@ use crate::locals::{
     assign, bind, combined_local, fake_read, named_local, new_index, new_never, new_temp,
     target_local, write,
 };
+use crate::simple::{literal_into, lower_continue, name_into, names_place};
 use crate::update::field_operands;
 use body_forms::{
-    Assigned, Assignee, Context, FieldStep, Form, LiteralValue, PlaceForm, Several, Single,
-    StructLiteral, copied, deciding, diverges, field_sources, form_at, form_not_built, kind_of,
-    literal_at, lower_callee, lower_literal, made_of, method_args, part_elem, place_form_at,
-    struct_value, written_exprs,
+    Assigned, Assignee, Context, FieldStep, Form, PlaceForm, Several, Single, StructLiteral,
+    copied, deciding, diverges, field_sources, form_at, form_not_built, kind_of, literal_at,
+    lower_callee, lower_literal, made_of, method_args, part_elem, place_form_at, struct_value,
+    written_exprs,
 };
 use either::Either;
 use mir::{
@@ -44,50 +45,7 @@ use mir::{
     Rvalue,
 };
 use mir_graph::Graph;
-use world::{ExprId, LabelId, List, LogicOp, PatId, Statement, Text, TryClone, VariantId};
-
-/// A literal is assigned.
-fn literal_into(
-    context: &Context<'_>,
-    graph: &mut Graph,
-    e: ExprId,
-    literal: LiteralValue,
-    to: LocalId,
-) -> Result<(), MirLowerError>
-    requires ready { IsReady (source_of context.now) (shape graph.old) e.0 }
-    requires form { node (source_of context.now) e.0 ≡ Some (expr.Literal (core_value literal)) }
-    ensures lowered { OnOk result ((cell : Cell) → local_of (shape graph.old) cell ≡ Some to.0
-        → LowersOwn (source_of context.now) (shape graph.old) (shape graph.new) e.0 cell) }
-    ensures built { OnOk result (IsBuilt (source_of context.now) e.0) }
-    ensures refused { IfErr result (RefusesAt (source_of context.now) e.0) }
-{
-    let operand = lower_literal(context, e, literal)?;
-    assign(graph, to, Rvalue::Use(operand), MirSpan::ExprId(e))
-}
-
-/// The bytes of what a path names are copied.
-fn name_into(
-    context: &Context<'_>,
-    graph: &mut Graph,
-    e: ExprId,
-    name: &Text,
-    to: LocalId,
-) -> Result<(), MirLowerError>
-    requires ready { IsReady (source_of context.now) (shape graph.old) e.0 }
-    requires form { node (source_of context.now) e.0 ≡ Some (expr.Path name.now) }
-    ensures lowered { OnOk result ((cell : Cell) → local_of (shape graph.old) cell ≡ Some to.0
-        → LowersOwn (source_of context.now) (shape graph.old) (shape graph.new) e.0 cell) }
-    ensures built { OnOk result (IsBuilt (source_of context.now) e.0) }
-    ensures refused { IfErr result (RefusesAt (source_of context.now) e.0) }
-{
-    let from = named_local(context, graph, e, name)?;
-    assign(
-        graph,
-        to,
-        Rvalue::Use(copied(Place::from(from), e)),
-        MirSpan::ExprId(e),
-    )
-}
+use world::{ExprId, LabelId, List, LogicOp, PatId, Statement, TryClone, VariantId};
 
 /// An expression as an operand: a literal as it stands, and any other by its place.
 #[cycle(lower)]
@@ -487,18 +445,6 @@ fn lower_if(
     Ok(())
 }
 
-/// Whether an expression that isn't adjusted is a path or a field.
-fn names_place(context: &Context<'_>, e: ExprId) -> bool
-    requires { e.0 < length context.now.body.now.exprs }
-    ensures { result ≡ is_place (unadjusted (source_of context.now) e.0) }
-{
-    match place_form_at(context, e) {
-        PlaceForm::Path(_) => true,
-        PlaceForm::Field(..) => true,
-        PlaceForm::Value => false,
-    }
-}
-
 /// The place that an assignment writes to: the local that a path names, or the place of an expression. An expression that names no
 /// place has none but a local of its own, which isn't assigned.
 #[cycle(lower)]
@@ -706,24 +652,6 @@ fn lower_break(
     let blocks = target_of_jump(graph, label, MirLowerError::BreakWithoutLoop)?;
     lower_tail(context, graph, e, value, blocks.to)?;
     jump(context, graph, blocks.drop_scope, blocks.end, e)?;
-    Ok(())
-}
-
-/// A `continue`: the next turn of a loop, or a labelled block from its beginning.
-fn lower_continue(
-    context: &Context<'_>,
-    graph: &mut Graph,
-    e: ExprId,
-    label: Option<LabelId>,
-) -> Result<(), MirLowerError>
-    requires ready { IsReady (source_of context.now) (shape graph.old) e.0 }
-    requires form { node (source_of context.now) e.0 ≡ Some (expr.Continue label) }
-    ensures lowered { OnOk result ((cell : Cell) → LowersOwn (source_of context.now) (shape graph.old) (shape graph.new) e.0 cell) }
-    ensures built { OnOk result (IsBuilt (source_of context.now) e.0) }
-    ensures refused { IfErr result (RefusesAt (source_of context.now) e.0) }
-{
-    let blocks = target_of_jump(graph, label, MirLowerError::ContinueWithoutLoop)?;
-    jump(context, graph, blocks.drop_scope, blocks.begin, e)?;
     Ok(())
 }
 

@@ -9,7 +9,7 @@ use Rattle.mir_lower.specs.Refusals.{RefusesAt}
 use Rattle.mir_lower.proofs.Building.{built-literal}
 use Rattle.mir_lower.proofs.Operations.{lowers-literal}
 use Rattle.mir_lower.proofs.Refused.{refuses-here, refuses-no-memory, refused-exit}
-use Rattle.mir_lower.proofs.lower.literal_into.Goals as goal
+use Rattle.mir_lower.proofs.simple.literal_into.Goals as goal
 
 pub returns-in_err-operand-clause-refused : goal.returns-in_err-operand-clause-refused
 returns-in_err-operand-clause-refused c =

@@ -9,7 +9,7 @@ use Rattle.mir_lower.specs.Refusals.{RefusesAt}
 use Rattle.mir_lower.proofs.Building.{built-path}
 use Rattle.mir_lower.proofs.Operations.{lowers-named}
 use Rattle.mir_lower.proofs.Refused.{refuses-here, refuses-no-memory, refused-exit}
-use Rattle.mir_lower.proofs.lower.name_into.Goals as goal
+use Rattle.mir_lower.proofs.simple.name_into.Goals as goal
 
 pub returns-in_err-from-clause-refused : goal.returns-in_err-from-clause-refused
 returns-in_err-from-clause-refused c =

@@ -6,7 +6,7 @@ use Rattle.mir_lower.specs.Refusals.{RefusesAt}
 use Rattle.mir_lower.proofs.Building.{built-continue, has-target}
 use Rattle.mir_lower.proofs.Jumping.{lowers-continue}
 use Rattle.mir_lower.proofs.Refused.{refuses-no-memory, refuses-continue, refused-exit}
-use Rattle.mir_lower.proofs.lower.lower_continue.Goals as goal
+use Rattle.mir_lower.proofs.simple.lower_continue.Goals as goal
 
 pub returns-in_err-blocks-clause-refused : goal.returns-in_err-blocks-clause-refused
 returns-in_err-blocks-clause-refused c =
