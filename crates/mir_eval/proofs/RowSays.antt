@@ -40,6 +40,7 @@ use Rattle.mir_rows.specs.declared.spots.Spot.TheVariants as at
 use Rattle.mir_rows.specs.Rows.{AreOperands, IsSource, IsWay, Leads, Says, constant_in, short_bytes}
 use Rattle.mir_rows.specs.Spots.{IsSpot, LiesAt, spot_cell}
 use Rattle.mir_eval.specs.Frames.{code_in}
+use Rattle.mir_eval.specs.Reads.{HasBytes, HoldsAt, LiesIn, Makes}
 use Rattle.mir_eval.proofs.Operated.{operated_if_made}
 
 -- a list of one byte
@@ -55,51 +56,50 @@ number-of-one byte = omega arith
 
 module _ (frame : Frame) (memory : Memory) where
   -- the bytes of an operand whose value lies at a spot
-  pub spot-bytes : (spot : Spot) (kind : OperandKind) → LiesAt (code_in frame) spot kind → operand_bytes frame memory kind ≡ option_and_then (cell_bytes memory) (spot_cell frame.cells spot)
+  pub spot-bytes : (spot : Spot) (kind : OperandKind) → LiesAt (code_in frame) spot kind → operand_bytes frame memory kind ≡ option_and_then (cell_bytes memory) (spot_cell (number_held memory frame.cells) frame.cells spot)
   unfolding operand_bytes
   spot-bytes spot (operand.Copy place) is = ap (λ (found : Option Interval). option_and_then (cell_bytes memory) found) (is.lies (number_held memory frame.cells) frame.cells)
   spot-bytes spot (operand.Constant konst ty) is = absurd is
 
-  -- such an operand isn't out of bounds
-  spot-within : (spot : Spot) (kind : OperandKind) → LiesAt (code_in frame) spot kind → operand_out frame.program.world frame.body (number_held memory frame.cells) kind ≡ false
+  -- such an operand isn't out of bounds where the spot isn't
+  spot-within : (spot : Spot) (cell : Interval) → LiesIn frame memory spot cell → (kind : OperandKind) → LiesAt (code_in frame) spot kind → operand_out frame.program.world frame.body (number_held memory frame.cells) kind ≡ false
   unfolding operand_out
-  spot-within spot (operand.Copy place) is = is.within (number_held memory frame.cells)
-  spot-within spot (operand.Constant konst ty) is = absurd is
+  spot-within spot cell lies (operand.Copy place) is = is.past (number_held memory frame.cells) ∙ lies.within
+  spot-within spot cell lies (operand.Constant konst ty) is = absurd is
 
-  -- nor is one that a source is
-  source-within : (given : Source) (kind : OperandKind) → IsSource (code_in frame) given kind → operand_out frame.program.world frame.body (number_held memory frame.cells) kind ≡ false
+  -- nor is a constant
+  constant-within : (bytes : List ℕ) (kind : OperandKind) → constant_in kind ≡ Some bytes → operand_out frame.program.world frame.body (number_held memory frame.cells) kind ≡ false
   unfolding operand_out
-  source-within (source.Whole local) kind is = spot-within (at.Whole local) kind is
-  source-within (source.Part local offset size) kind is = spot-within (at.Part local offset size) kind is
-  source-within (source.Constant short) (operand.Copy place) is = absurd cc
-  source-within (source.Constant short) (operand.Constant konst ty) is = refl
+  constant-within bytes (operand.Copy place) is = absurd cc
+  constant-within bytes (operand.Constant konst ty) is = refl
 
   either-false : (one other : Bool) → one ≡ false → other ≡ false → (one || other) ≡ false
   either-false false other first second = second
   either-false true other first second = absurd cc
 
   -- what an assignment leaves whose places aren't out of bounds
-  assigned-within : (place : Place) (to : Spot) (rvalue : Rvalue) → IsSpot (code_in frame) place to → reads_out frame.program.world frame.body (number_held memory frame.cells) rvalue ≡ false →
+  assigned-within : (place : Place) (to : Spot) (cell : Interval) → LiesIn frame memory to cell → (rvalue : Rvalue) → IsSpot (code_in frame) place to → reads_out frame.program.world frame.body (number_held memory frame.cells) rvalue ≡ false →
       copied memory (cell_now frame memory place) (rvalue_bytes frame memory rvalue) ≡ after_statement frame memory (Assign place rvalue)
   unfolding after_statement
-  assigned-within place to rvalue is within =
+  assigned-within place to cell lies rvalue is within =
       ap (λ (out : Bool). assigned out memory (cell_now frame memory place) (rvalue_bytes frame memory rvalue))
-      (sym (either-false (is_out_of_bounds frame.program.world frame.body (number_held memory frame.cells) place) (reads_out frame.program.world frame.body (number_held memory frame.cells) rvalue) (is.within (number_held memory frame.cells)) within))
+      (sym (either-false (is_out_of_bounds frame.program.world frame.body (number_held memory frame.cells) place) (reads_out frame.program.world frame.body (number_held memory frame.cells) rvalue) (is.past (number_held memory frame.cells) ∙ lies.within) within))
 
   -- where a source says that a value lies
   pub lies-whole : (given : Source) (local : LocalId) → given ≡ source.Whole local → (kind : OperandKind) → IsSource (code_in frame) given kind → LiesAt (code_in frame) (at.Whole local) kind
   lies-whole given local is kind said = subst (λ (s : Source). IsSource (code_in frame) s kind) is said
 
-  pub lies-in : (given : Source) (local : LocalId) (offset size : ℕ) → given ≡ source.Part local offset size → (kind : OperandKind) → IsSource (code_in frame) given kind → LiesAt (code_in frame) (at.Part local offset size) kind
-  lies-in given local offset size is kind said = subst (λ (s : Source). IsSource (code_in frame) s kind) is said
+  pub lies-at : (given : Source) (spot : Spot) → given ≡ source.At spot → (kind : OperandKind) → IsSource (code_in frame) given kind → LiesAt (code_in frame) spot kind
+  lies-at given spot is kind said = subst (λ (s : Source). IsSource (code_in frame) s kind) is said
 
-  pub view-at : (given : Source) (spot : Spot) (cell : Interval) (view : Option (List (List ℕ))) → ((kind : OperandKind) → IsSource (code_in frame) given kind → LiesAt (code_in frame) spot kind) → spot_cell frame.cells spot ≡ Some cell → option_map concat view ≡ cell_bytes memory cell →
-      IfSome view (λ pieces. (kind : OperandKind) → IsSource (code_in frame) given kind → operand_bytes frame memory kind ≡ Some (concat pieces))
-  view-at given spot cell None lies there are = tt
-  view-at given spot cell (Some pieces) lies there are =
-      λ kind said.
-      spot-bytes spot kind (lies kind said)
-      ∙ ap (λ (found : Option Interval). option_and_then (cell_bytes memory) found) there ∙ sym are
+  pub view-at : (given : Source) (spot : Spot) (cell : Interval) (view : Option (List (List ℕ))) → ((kind : OperandKind) → IsSource (code_in frame) given kind → LiesAt (code_in frame) spot kind) → LiesIn frame memory spot cell → option_map concat view ≡ cell_bytes memory cell →
+      IfSome view (λ pieces. (kind : OperandKind) → IsSource (code_in frame) given kind → HasBytes frame memory kind (concat pieces))
+  view-at given spot cell None is lies are = tt
+  view-at given spot cell (Some pieces) is lies are =
+      λ kind said. record {
+        has = spot-bytes spot kind (is kind said) ∙ ap (λ (found : Option Interval). option_and_then (cell_bytes memory) found) lies.there ∙ sym are;
+        within = spot-within spot cell lies kind (is kind said);
+      }
 
   -- the bytes of an operand that is a constant
   constant-bytes : (bytes : List ℕ) (kind : OperandKind) → constant_in kind ≡ Some bytes → operand_bytes frame memory kind ≡ Some bytes
@@ -108,33 +108,39 @@ module _ (frame : Frame) (memory : Memory) where
   constant-bytes bytes (operand.Constant konst ty) is = is
 
   pub short-bytes : (given : Source) (short : Short) (bytes : List ℕ) → given ≡ source.Constant short → short_bytes short ≡ bytes →
-      (kind : OperandKind) → IsSource (code_in frame) given kind → operand_bytes frame memory kind ≡ Some bytes
-  short-bytes given short bytes is are kind said = constant-bytes bytes kind (subst (λ (s : Source). IsSource (code_in frame) s kind) is said ∙ ap Some are)
+      (kind : OperandKind) → IsSource (code_in frame) given kind → HasBytes frame memory kind bytes
+  short-bytes given short bytes is are kind said =
+      let constant : constant_in kind ≡ Some bytes = subst (λ (s : Source). IsSource (code_in frame) s kind) is said ∙ ap Some are in
+      record { has = constant-bytes bytes kind constant; within = constant-within bytes kind constant }
 
   -- what an operator makes of two sources
   pub combined : (op : Operator) (kind : Kind) (left right : Source) (made : Option Made) (left_pieces right_pieces : List (List ℕ)) (l r : List ℕ) → l ≡ concat left_pieces → r ≡ concat right_pieces →
-      ((one : OperandKind) → IsSource (code_in frame) left one → operand_bytes frame memory one ≡ Some (concat left_pieces)) → ((one : OperandKind) → IsSource (code_in frame) right one → operand_bytes frame memory one ≡ Some (concat right_pieces)) →
+      ((one : OperandKind) → IsSource (code_in frame) left one → HasBytes frame memory one (concat left_pieces)) → ((one : OperandKind) → IsSource (code_in frame) right one → HasBytes frame memory one (concat right_pieces)) →
       IfSome made (λ m. computed op (Some kind) (Some kind) l r ≡ Computes (made_bytes m)) →
-      IfSome made (λ m. (one other : OperandKind) → AreOperands (code_in frame) kind left right one other → operated op (operand_type frame.program.world frame.body one) (operand_type frame.program.world frame.body other) (operand_bytes frame memory one) (operand_bytes frame memory other) ≡ Ok (made_bytes m))
+      IfSome made (λ m. (one other : OperandKind) → AreOperands (code_in frame) kind left right one other → Makes frame memory op one other (made_bytes m))
   combined op kind left right None left_pieces right_pieces l r le re lf rf computes = tt
   combined op kind left right (Some m) left_pieces right_pieces l r le re lf rf computes =
       λ one other are.
-      operated_if_made made_bytes (Some m) op kind (operand_type frame.program.world frame.body one) (operand_type frame.program.world frame.body other) (operand_bytes frame memory one) (operand_bytes frame memory other) l r
-      are.left_kind are.right_kind (lf one are.left ∙ ap Some (sym le)) (rf other are.right ∙ ap Some (sym re)) computes
+      let first = lf one are.left in
+      let second = rf other are.right in
+      record {
+        makes =
+            operated_if_made made_bytes (Some m) op kind (operand_type frame.program.world frame.body one) (operand_type frame.program.world frame.body other) (operand_bytes frame memory one) (operand_bytes frame memory other) l r
+            are.left_kind are.right_kind (first.has ∙ ap Some (sym le)) (second.has ∙ ap Some (sym re)) computes;
+        within = either-false (operand_out frame.program.world frame.body (number_held memory frame.cells) one) (operand_out frame.program.world frame.body (number_held memory frame.cells) other) first.within second.within;
+      }
 
-  module _ (out : Result Memory MirEvalError) (to : Spot) where
+  module _ (out : Result Memory MirEvalError) (to : Spot) (cell : Interval) (lies : LiesIn frame memory to cell) where
     combines : (op : Operator) (kind : Kind) (left right : Source) (m : Made) →
-        ((one other : OperandKind) → AreOperands (code_in frame) kind left right one other → operated op (operand_type frame.program.world frame.body one) (operand_type frame.program.world frame.body other) (operand_bytes frame memory one) (operand_bytes frame memory other) ≡ Ok (made_bytes m)) →
-        out ≡ copied memory (spot_cell frame.cells to) (Ok (made_bytes m)) →
+        ((one other : OperandKind) → AreOperands (code_in frame) kind left right one other → Makes frame memory op one other (made_bytes m)) → out ≡ copied memory (Some cell) (Ok (made_bytes m)) →
         (statement : StatementKind) → Says (code_in frame) (action.Combine op kind to left right) statement → out ≡ after_statement frame memory statement
     unfolding rvalue_bytes reads_out
     combines op kind left right m makes is (Assign place (CheckedBinaryOp operator one other)) says =
         is
-        ∙ ap (λ (cell : Option Interval). copied memory cell (Ok (made_bytes m))) (sym (says.0.lies (number_held memory frame.cells) frame.cells))
+        ∙ ap (λ (found : Option Interval). copied memory found (Ok (made_bytes m))) (sym (says.0.lies (number_held memory frame.cells) frame.cells ∙ lies.there))
         ∙ ap (copied memory (cell_now frame memory place))
-        (sym (makes one.kind other.kind says.2) ∙ ap (λ (o : Operator). operated o (operand_type frame.program.world frame.body one.kind) (operand_type frame.program.world frame.body other.kind) (operand_bytes frame memory one.kind) (operand_bytes frame memory other.kind)) (sym says.1))
-        ∙ assigned-within place to (CheckedBinaryOp operator one other) says.0
-        (either-false (operand_out frame.program.world frame.body (number_held memory frame.cells) one.kind) (operand_out frame.program.world frame.body (number_held memory frame.cells) other.kind) (source-within left one.kind says.2.left) (source-within right other.kind says.2.right))
+        (sym (makes one.kind other.kind says.2).makes ∙ ap (λ (o : Operator). operated o (operand_type frame.program.world frame.body one.kind) (operand_type frame.program.world frame.body other.kind) (operand_bytes frame memory one.kind) (operand_bytes frame memory other.kind)) (sym says.1))
+        ∙ assigned-within place to cell lies (CheckedBinaryOp operator one other) says.0 (makes one.kind other.kind says.2).within
     combines op kind left right m makes is (Assign place (Use given)) says = absurd says
     combines op kind left right m makes is (Assign place (UnaryOp operator given)) says = absurd says
     combines op kind left right m makes is (Assign place (Cast cast given ty)) says = absurd says
@@ -146,41 +152,42 @@ module _ (frame : Frame) (memory : Memory) where
 
     -- a statement that assigns what an operator makes
     pub does-combine : (given : Action) (op : Operator) (kind : Kind) (left right : Source) (m : Made) → given ≡ action.Combine op kind to left right →
-        ((one other : OperandKind) → AreOperands (code_in frame) kind left right one other → operated op (operand_type frame.program.world frame.body one) (operand_type frame.program.world frame.body other) (operand_bytes frame memory one) (operand_bytes frame memory other) ≡ Ok (made_bytes m)) →
-        out ≡ copied memory (spot_cell frame.cells to) (Ok (made_bytes m)) →
+        ((one other : OperandKind) → AreOperands (code_in frame) kind left right one other → Makes frame memory op one other (made_bytes m)) → out ≡ copied memory (Some cell) (Ok (made_bytes m)) →
         (statement : StatementKind) → Says (code_in frame) given statement → out ≡ after_statement frame memory statement
     does-combine given op kind left right m same makes is statement says =
         combines op kind left right m makes is statement (subst (λ (a : Action). Says (code_in frame) a statement) same says)
 
     -- or the bytes of one operand
-    puts : (bytes : Result (List ℕ) MirEvalError) → out ≡ copied memory (spot_cell frame.cells to) bytes →
+    puts : (bytes : Result (List ℕ) MirEvalError) → out ≡ copied memory (Some cell) bytes →
         (place : Place) (one : Operand) → IsSpot (code_in frame) place to → operand_out frame.program.world frame.body (number_held memory frame.cells) one.kind ≡ false → read (operand_bytes frame memory one.kind) ≡ bytes → out ≡ after_statement frame memory (Assign place (Use one))
     unfolding rvalue_bytes reads_out
-    puts bytes does place one lies within are =
+    puts bytes does place one is within are =
         does
-        ∙ ap (λ (cell : Option Interval). copied memory cell bytes) (sym (lies.lies (number_held memory frame.cells) frame.cells))
+        ∙ ap (λ (found : Option Interval). copied memory found bytes) (sym (is.lies (number_held memory frame.cells) frame.cells ∙ lies.there))
         ∙ ap (copied memory (cell_now frame memory place)) (sym are)
-        ∙ assigned-within place to (Use one) lies within
+        ∙ assigned-within place to cell lies (Use one) is within
 
-    copies : (from : Spot) → out ≡ copied memory (spot_cell frame.cells to) (read (option_and_then (cell_bytes memory) (spot_cell frame.cells from))) →
+    copies : (from : Spot) (there : Interval) → LiesIn frame memory from there → out ≡ copied memory (Some cell) (read (cell_bytes memory there)) →
         (statement : StatementKind) → Says (code_in frame) (action.Copy to from) statement → out ≡ after_statement frame memory statement
-    copies from does (Assign place (Use one)) says = puts _ does place one says.0 (spot-within from one.kind says.1) (ap read (spot-bytes from one.kind says.1))
-    copies from does (Assign place (CheckedBinaryOp operator one other)) says = absurd says
-    copies from does (Assign place (UnaryOp operator one)) says = absurd says
-    copies from does (Assign place (Cast cast one ty)) says = absurd says
-    copies from does (Assign place (Repeat given len)) says = absurd says
-    copies from does (Assign place (Aggregate made parts)) says = absurd says
-    copies from does (FakeRead place) says = absurd says
-    copies from does (StorageLive local) says = absurd says
-    copies from does (StorageDead local) says = absurd says
+    copies from there stands does (Assign place (Use one)) says =
+        puts _ does place one says.0 (spot-within from there stands one.kind says.1)
+        (ap read (spot-bytes from one.kind says.1 ∙ ap (λ (found : Option Interval). option_and_then (cell_bytes memory) found) stands.there))
+    copies from there stands does (Assign place (CheckedBinaryOp operator one other)) says = absurd says
+    copies from there stands does (Assign place (UnaryOp operator one)) says = absurd says
+    copies from there stands does (Assign place (Cast cast one ty)) says = absurd says
+    copies from there stands does (Assign place (Repeat given len)) says = absurd says
+    copies from there stands does (Assign place (Aggregate made parts)) says = absurd says
+    copies from there stands does (FakeRead place) says = absurd says
+    copies from there stands does (StorageLive local) says = absurd says
+    copies from there stands does (StorageDead local) says = absurd says
 
-    pub does-copy : (given : Action) (from : Spot) → given ≡ action.Copy to from → out ≡ copied memory (spot_cell frame.cells to) (read (option_and_then (cell_bytes memory) (spot_cell frame.cells from))) →
+    pub does-copy : (given : Action) (from : Spot) (there : Interval) → LiesIn frame memory from there → given ≡ action.Copy to from → out ≡ copied memory (Some cell) (read (cell_bytes memory there)) →
         (statement : StatementKind) → Says (code_in frame) given statement → out ≡ after_statement frame memory statement
-    does-copy given from same does statement says = copies from does statement (subst (λ (a : Action). Says (code_in frame) a statement) same says)
+    does-copy given from there stands same does statement says = copies from there stands does statement (subst (λ (a : Action). Says (code_in frame) a statement) same says)
 
-    puts-short : (short : Short) → out ≡ copied memory (spot_cell frame.cells to) (Ok (short_bytes short)) →
+    puts-short : (short : Short) → out ≡ copied memory (Some cell) (Ok (short_bytes short)) →
         (statement : StatementKind) → Says (code_in frame) (action.Put to short) statement → out ≡ after_statement frame memory statement
-    puts-short short does (Assign place (Use one)) says = puts _ does place one says.0 (source-within (source.Constant short) one.kind says.1) (ap read (constant-bytes (short_bytes short) one.kind says.1))
+    puts-short short does (Assign place (Use one)) says = puts _ does place one says.0 (constant-within (short_bytes short) one.kind says.1) (ap read (constant-bytes (short_bytes short) one.kind says.1))
     puts-short short does (Assign place (CheckedBinaryOp operator one other)) says = absurd says
     puts-short short does (Assign place (UnaryOp operator one)) says = absurd says
     puts-short short does (Assign place (Cast cast one ty)) says = absurd says
@@ -190,7 +197,7 @@ module _ (frame : Frame) (memory : Memory) where
     puts-short short does (StorageLive local) says = absurd says
     puts-short short does (StorageDead local) says = absurd says
 
-    pub does-put : (given : Action) (short : Short) → given ≡ action.Put to short → out ≡ copied memory (spot_cell frame.cells to) (Ok (short_bytes short)) →
+    pub does-put : (given : Action) (short : Short) → given ≡ action.Put to short → out ≡ copied memory (Some cell) (Ok (short_bytes short)) →
         (statement : StatementKind) → Says (code_in frame) given statement → out ≡ after_statement frame memory statement
     does-put given short same does statement says = puts-short short does statement (subst (λ (a : Action). Says (code_in frame) a statement) same says)
 
@@ -210,7 +217,7 @@ module _ (frame : Frame) (memory : Memory) where
   pub goto-leads : (given : Way) (block : BasicBlockId) → given ≡ way.Goto block → (terminator : Option Terminator) → IsWay (code_in frame) given terminator → terminated frame memory terminator ≡ GoesTo frame memory block.0
   goto-leads given block same terminator is = goto-terminated block terminator (subst (λ (w : Way). IsWay (code_in frame) w terminator) same is)
 
-  module _ (spot : Spot) (value : ℕ) (hit miss : BasicBlockId) (byte : ℕ) (reads : option_and_then (cell_bytes memory) (spot_cell frame.cells spot) ≡ Some (byte ∷ [])) where
+  module _ (spot : Spot) (value : ℕ) (hit miss : BasicBlockId) (byte : ℕ) (held : HoldsAt frame memory spot (byte ∷ [])) where
     -- where the test of a byte leads
     abbrev Chosen : BasicBlockId
     Chosen = if value == byte then hit else miss
@@ -222,8 +229,8 @@ module _ (frame : Frame) (memory : Memory) where
     branch-kind : (terminator : Terminator) (kind : TerminatorKind) → Leads (code_in frame) (way.Branch spot value hit miss) kind → terminated frame memory (Some (record terminator { kind = kind })) ≡ GoesTo frame memory Chosen.0
     unfolding terminated
     branch-kind terminator (ends.SwitchInt discr targets) leads =
-        ap (λ (out : Bool). led frame out (switched frame memory targets (operand_bytes frame memory discr.kind))) (spot-within spot discr.kind leads.0)
-        ∙ ap (switched frame memory targets) (spot-bytes spot discr.kind leads.0 ∙ reads) ∙ ap (λ (t : SwitchTargets). switched frame memory t (Some (byte ∷ []))) leads.1 ∙ tested
+        ap (λ (out : Bool). led frame out (switched frame memory targets (operand_bytes frame memory discr.kind))) (spot-within spot held.cell held.lies discr.kind leads.0)
+        ∙ ap (switched frame memory targets) (spot-bytes spot discr.kind leads.0 ∙ ap (λ (found : Option Interval). option_and_then (cell_bytes memory) found) held.lies.there ∙ held.holds) ∙ ap (λ (t : SwitchTargets). switched frame memory t (Some (byte ∷ []))) leads.1 ∙ tested
     branch-kind terminator (ends.Goto target) leads = absurd leads
     branch-kind terminator (ends.Drop place target unwind) leads = absurd leads
     branch-kind terminator ends.Return leads = absurd leads

@@ -4,5 +4,6 @@ pub mod Evaluators
 pub mod Frames
 pub mod Machine
 pub mod Phases
+pub mod Reads
 pub mod Start
 pub mod Steps

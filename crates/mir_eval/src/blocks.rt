@@ -2,36 +2,58 @@
 
 ghost use Rattle.std.specs.Prelude.{◌≡◌, ◌<◌, ◌≤◌, ◌∷◌, [], IfNone, IfSome, IsSome, None, OnOk, Ok, Option, Some, slice_get, option_and_then};
 ghost use Rattle.mir.specs.declared.body.Terminator.{Terminator};
-ghost use Rattle.mir.specs.Memory.{cell_bytes};
 ghost use Rattle.mir.specs.Run.{GoesTo, terminated, next_from, entering};
 ghost use Rattle.mir_rows.specs.Rows.{HasRows, IsWay};
-ghost use Rattle.mir_rows.specs.Spots.{spot_cell};
 ghost use Rattle.mir_eval.specs.Machine.{call_at, call_of, terminator_at};
 ghost use Rattle.mir_eval.specs.declared.steps.Exit.TheVariants.{Calls};
 ghost use Rattle.mir_eval.specs.Frames.{code_in, frame_of};
+ghost use Rattle.mir_eval.specs.Reads.{HoldsAt};
 ghost use Rattle.mir_eval.specs.Steps.{next_of, Halts, HaltsAtCall, OrNoMemory};
 
 use crate::cells::read;
 use crate::faults::Fault;
 use crate::frames::StackFrame;
-use crate::rows::run_rows;
+use crate::rows::{find, run_rows};
 use crate::steps::{Exit, Halt, Stop, terminate};
 use mir::{BasicBlockId, Terminator};
 use mir_mem::{Memory, whole};
-use mir_rows::{BlockRows, Spot, Way, spot_cell};
+use mir_rows::{BlockRows, Spot, Way};
 
-/// The one byte of the value at a spot, where it has one that can be read.
+/// The one byte of the value at a spot, where it has one that can be read, and is within bounds.
 #[inline(always)]
-fn byte_at<M: Memory>(frame: StackFrame<'_, '_>, memory: &M, spot: &Spot) -> Option<u8>
-    ensures { IfSome result (λ byte. option_and_then (cell_bytes (M.areas memory.now)) (spot_cell frame.entry.cells.now spot.now) ≡ Some (byte ∷ [])) }
+fn byte_at<M: Memory, const FAR: bool>(
+    frame: StackFrame<'_, '_>,
+    memory: &M,
+    spot: &Spot,
+) -> Option<u8>
+    ensures { IfSome result (λ byte. HoldsAt (frame_of frame.entry) (M.areas memory.now) spot.now (byte ∷ [])) }
 {
-    let cell = spot_cell(frame.cells, *spot)?;
+    let cell = find::<M, FAR>(frame, memory, spot)?;
     let view = read(memory, cell)?;
     let bytes = whole(&view)?;
     if bytes.len() == 1 {
         Some(bytes[0])
     } else {
         None
+    }
+}
+
+/// The same, out of the loop over blocks.
+#[inline(never)]
+fn far_byte<M: Memory>(frame: StackFrame<'_, '_>, memory: &M, spot: &Spot) -> Option<u8>
+    ensures { IfSome result (λ byte. HoldsAt (frame_of frame.entry) (M.areas memory.now) spot.now (byte ∷ [])) }
+{
+    byte_at::<M, true>(frame, memory, spot)
+}
+
+/// The same, where the loop over blocks has code of its own for what lies behind no indices.
+#[inline(always)]
+fn byte<M: Memory>(frame: StackFrame<'_, '_>, memory: &M, spot: &Spot) -> Option<u8>
+    ensures { IfSome result (λ byte. HoldsAt (frame_of frame.entry) (M.areas memory.now) spot.now (byte ∷ [])) }
+{
+    match byte_at::<M, false>(frame, memory, spot) {
+        Some(byte) => Some(byte),
+        None => far_byte(frame, memory, spot),
     }
 }
 
@@ -48,7 +70,7 @@ fn follow<M: Memory>(frame: StackFrame<'_, '_>, memory: &M, way: &Way) -> Option
             then,
             otherwise,
         } => {
-            let byte = byte_at(frame, memory, spot)?;
+            let byte = byte(frame, memory, spot)?;
             Some(if byte == *value { *then } else { *otherwise })
         }
         Way::Other => None,

@@ -1,16 +1,17 @@
 //! The cells of locals, and the bytes in them.
 
-ghost use Rattle.std.specs.Prelude.{◌≡◌, option_map, Some, Ok};
+ghost use Rattle.std.specs.Prelude.{◌≡◌, length, option_map, IfSome, Some, Ok};
 ghost use Rattle.std.specs.List.{concat};
+ghost use Rattle.numbers.specs.Bytes.{value_of};
 ghost use Rattle.mir.specs.Memory.{cell_bytes};
 ghost use Rattle.mir.specs.Run.{copied, read};
 ghost use Rattle.mir_eval.specs.Steps.{left_with};
 
 use crate::faults::Fault;
 use mir::{Interval, LocalId};
-use mir_mem::{Memory, View, gather};
+use mir_mem::{Memory, View, gather, whole};
 use mir_rows::{Numbers, cell_of};
-use numbers::number_of;
+use numbers::{number_of, word8};
 
 /// The cells of locals over a memory, in which the locals that are used as indices hold numbers.
 pub(crate) struct Held<'r, M> {
@@ -32,6 +33,7 @@ impl<M: Memory> Numbers for Held<'_, M> {
 
     ghost held = { λ locals. number_held (M.areas locals.memory.now) locals.cells.now };
 
+    #[inline(always)]
     #[tactic(auto, unfolding(mir::specs::Memory::number_held))]
     fn number(&self, local: LocalId) -> Option<u128> {
         let Some(cell) = cell_of(self.cells, local) else {
@@ -40,6 +42,9 @@ impl<M: Memory> Numbers for Held<'_, M> {
         let Some(view) = read(self.memory, cell) else {
             return None;
         };
+        if let Some(word) = word_in(&view) {
+            return Some(word as u128);
+        }
         if view.len() > 16 {
             return None;
         }
@@ -47,6 +52,19 @@ impl<M: Memory> Numbers for Held<'_, M> {
             Some(bytes) => Some(number_of(bytes.bytes())),
             None => None,
         }
+    }
+}
+
+/// The number that a view is, where that has 8 bytes in one piece.
+#[inline(always)]
+fn word_in(view: &View<'_>) -> Option<u64>
+    ensures { IfSome result (λ word. (word ≡ value_of (concat view.now)) × (length (concat view.now) ≡ 8)) }
+{
+    let bytes = whole(view)?;
+    if bytes.len() == 8 {
+        Some(word8(bytes))
+    } else {
+        None
     }
 }
 

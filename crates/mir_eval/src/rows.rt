@@ -1,54 +1,92 @@
 //! Statements by their rows: an operator on two operands of one kind, a copy, and a constant are done without a look at the body.
 
-ghost use Rattle.std.specs.Prelude.{◌≡◌, IfNone, IfSome, Ok, Some, option_and_then};
+ghost use Rattle.std.specs.Prelude.{◌≡◌, IfNone, IfSome, Ok, Some};
+ghost use Rattle.std.specs.Int.{from_bool};
 ghost use Rattle.std.specs.List.{concat};
-ghost use Rattle.mir.specs.declared.body.BasicBlock.{BasicBlock};
 ghost use Rattle.mir.specs.declared.operand.OperandKind.{OperandKind};
 ghost use Rattle.mir.specs.declared.statement.Statement.{Statement};
 ghost use Rattle.mir.specs.declared.statement.StatementKind.{StatementKind};
-ghost use Rattle.mir.specs.Memory.{cell_bytes};
-ghost use Rattle.mir.specs.Run.{after_statement, after_statements, copied, operand_bytes, operand_type, operated, read};
+ghost use Rattle.mir.specs.Memory.{number_held};
+ghost use Rattle.mir.specs.Run.{after_statement, after_statements, copied};
+ghost use Rattle.numbers.specs.Bytes.{low_digits};
 ghost use Rattle.mir_ops.specs.Made.{made_bytes};
-ghost use Rattle.mir_rows.specs.Rows.{short_bytes, AreOperands, AreRows, IsRow, IsSource, Says};
-ghost use Rattle.mir_rows.specs.Spots.{spot_cell};
+ghost use Rattle.mir_rows.specs.declared.row.Action.TheVariants.{Combine, Copy, Put};
+ghost use Rattle.mir_rows.specs.declared.spots.Spot.TheVariants.{Indexed};
+ghost use Rattle.mir_rows.specs.Places.{HaveEnds};
+ghost use Rattle.mir_rows.specs.Spots.{LiesNow};
+ghost use Rattle.mir_rows.specs.Rows.{AreOperands, AreRows, IsRow, IsSource, Says};
 ghost use Rattle.mir_eval.specs.Frames.{code_in, frame_of};
+ghost use Rattle.mir_eval.specs.Reads.{HasBytes, LiesIn, Makes};
 ghost use Rattle.mir_eval.specs.Steps.{left_with, OrNoMemory};
 
-use crate::cells::{copy, read, write};
+use crate::cells::{Held, copy, read, write};
 use crate::faults::Fault;
 use crate::frames::StackFrame;
 use crate::steps::execute;
-use mir::{BasicBlock, BinOp};
+use mir::{BasicBlock, BinOp, Interval};
 use mir_mem::{Memory, View, whole};
-use mir_ops::{Made, byte_of, bytes1, bytes2, bytes4, bytes8, bytes16, made_of};
-use mir_rows::{Action, Row, Short, Source, Spot, cell_of, cell_of_spot, part_of_local};
+use mir_ops::{Made, byte_of, bytes1, bytes2, bytes4, bytes8, bytes16, made_of, word_made_of};
+use mir_rows::{
+    Action, Element, Row, Short, Source, Spot, cell_of, cell_of_element, part_of_local,
+};
 use numbers::Kind;
 
-/// The bytes of a source now, where it has some.
+/// Where the value behind indices lies now, where it is within bounds. It stays out of code that is put into others.
+#[inline(never)]
+fn find_element<M: Memory>(cells: &[Interval], memory: &M, element: &Element) -> Option<Interval>
+    requires { HaveEnds cells.now }
+    ensures { IfSome result (LiesNow (number_held (M.areas memory.now) cells.now) cells.now (Indexed element.now)) }
+{
+    let numbers = Held { memory, cells };
+    cell_of_element(&numbers, cells, element)
+}
+
+/// Where a spot lies now, where it is within bounds, and lies behind no indices unless `FAR`.
 #[inline(always)]
-fn source<'r, M: Memory>(
+pub(crate) fn find<M: Memory, const FAR: bool>(
+    frame: StackFrame<'_, '_>,
+    memory: &M,
+    spot: &Spot,
+) -> Option<Interval>
+    ensures { IfSome result (LiesIn (frame_of frame.entry) (M.areas memory.now) spot.now) }
+{
+    match spot {
+        Spot::Whole(local) => cell_of(frame.cells, *local),
+        Spot::Part {
+            local,
+            offset,
+            size,
+        } => part_of_local(frame.cells, *local, *offset, *size),
+        Spot::Indexed(element) => {
+            if FAR {
+                Some(find_element(frame.cells, memory, element.as_ref())?)
+            } else {
+                None
+            }
+        }
+    }
+}
+
+/// The bytes of a source now, where it has some, and is within bounds.
+#[inline(always)]
+fn source<'r, M: Memory, const FAR: bool>(
     frame: StackFrame<'_, '_>,
     memory: &'r M,
     source: &'r Source,
 ) -> Option<View<'r>>
-    ensures { IfSome result (λ view. (operand : OperandKind) → IsSource (code_in (frame_of frame.entry)) source.now operand → operand_bytes (frame_of frame.entry) (M.areas memory.now) operand ≡ Some (concat view)) }
+    ensures { IfSome result (λ view. (operand : OperandKind) → IsSource (code_in (frame_of frame.entry)) source.now operand → HasBytes (frame_of frame.entry) (M.areas memory.now) operand (concat view)) }
 {
-    let cell = match source {
-        Source::Whole(local) => cell_of(frame.cells, *local)?,
-        Source::Part {
-            local,
-            offset,
-            size,
-        } => part_of_local(frame.cells, *local, *offset, *size)?,
-        Source::Constant(short) => return Some(View::of(short.bytes())),
-    };
-    read(memory, cell)
+    match source {
+        Source::Whole(local) => read(memory, cell_of(frame.cells, *local)?),
+        Source::Constant(short) => Some(View::of(short.bytes())),
+        Source::At(spot) => read(memory, find::<M, FAR>(frame, memory, spot)?),
+    }
 }
 
 /// What an operator makes of two operands of one kind, without the table. There is none where `made_of` has none, or where the
 /// bytes of one can't be read or don't lie in one piece.
 #[inline(always)]
-fn combine<M: Memory>(
+fn combine<M: Memory, const FAR: bool>(
     frame: StackFrame<'_, '_>,
     memory: &M,
     op: BinOp,
@@ -56,79 +94,135 @@ fn combine<M: Memory>(
     left: &Source,
     right: &Source,
 ) -> Option<Made>
-    ensures { IfSome result (λ made. (one other : OperandKind) → AreOperands (code_in (frame_of frame.entry)) kind left.now right.now one other → operated op (operand_type frame.entry.program.now.db.now frame.entry.body.now.body one) (operand_type frame.entry.program.now.db.now frame.entry.body.now.body other) (operand_bytes (frame_of frame.entry) (M.areas memory.now) one) (operand_bytes (frame_of frame.entry) (M.areas memory.now) other) ≡ Ok (made_bytes made)) }
+    ensures { IfSome result (λ made. (one other : OperandKind) → AreOperands (code_in (frame_of frame.entry)) kind left.now right.now one other → Makes (frame_of frame.entry) (M.areas memory.now) op one other (made_bytes made)) }
 {
-    let left_view = source(frame, memory, left)?;
-    let right_view = source(frame, memory, right)?;
+    let left_view = source::<M, FAR>(frame, memory, left)?;
+    let right_view = source::<M, FAR>(frame, memory, right)?;
     let left_bytes = whole(&left_view)?;
     let right_bytes = whole(&right_view)?;
-    made_of(op, kind, left_bytes, right_bytes)
-}
-
-/// Assigns a number or a truth value to a spot.
-#[inline(always)]
-#[tactic(auto, unfolding(mir::specs::Run::copied))]
-fn assign_made<M: Memory>(
-    frame: StackFrame<'_, '_>,
-    memory: &mut M,
-    to: &Spot,
-    made: Made,
-) -> Result<(), Fault>
-    ensures { left_with (M.areas memory.new) result ≡ copied (M.areas memory.old) (spot_cell frame.entry.cells.now to.now) (Ok (made_bytes made)) }
-{
-    let Some(to) = cell_of_spot(frame.cells, to) else {
-        return Err(Fault::BadWrite);
-    };
-    match made {
-        Made::Word1(word) => write(memory, to, &bytes1(word)),
-        Made::Word2(word) => write(memory, to, &bytes2(word)),
-        Made::Word4(word) => write(memory, to, &bytes4(word)),
-        Made::Word8(word) => write(memory, to, &bytes8(word)),
-        Made::WideWord(word) => write(memory, to, &bytes16(word)),
-        Made::Truth(truth) => write(memory, to, &byte_of(truth)),
+    if FAR {
+        made_of(op, kind, left_bytes, right_bytes)
+    } else {
+        word_made_of(op, kind, left_bytes, right_bytes)
     }
 }
 
-/// Copies the value at a spot to another one.
+/// Writes a number of 1 byte to the start of a cell.
 #[inline(always)]
-#[tactic(auto, unfolding(mir::specs::Run::copied))]
-fn copy_value<M: Memory>(
+fn write1<M: Memory>(memory: &mut M, to: Interval, word: u64) -> Result<(), Fault>
+    ensures { left_with (M.areas memory.new) result ≡ copied (M.areas memory.old) (Some to) (Ok (low_digits 1 word)) }
+{
+    write(memory, to, &bytes1(word))
+}
+
+/// Writes a number of 2 bytes to the start of a cell.
+#[inline(always)]
+fn write2<M: Memory>(memory: &mut M, to: Interval, word: u64) -> Result<(), Fault>
+    ensures { left_with (M.areas memory.new) result ≡ copied (M.areas memory.old) (Some to) (Ok (low_digits 2 word)) }
+{
+    write(memory, to, &bytes2(word))
+}
+
+/// Writes a number of 4 bytes to the start of a cell.
+#[inline(always)]
+fn write4<M: Memory>(memory: &mut M, to: Interval, word: u64) -> Result<(), Fault>
+    ensures { left_with (M.areas memory.new) result ≡ copied (M.areas memory.old) (Some to) (Ok (low_digits 4 word)) }
+{
+    write(memory, to, &bytes4(word))
+}
+
+/// Writes a number of 8 bytes to the start of a cell.
+#[inline(always)]
+fn write8<M: Memory>(memory: &mut M, to: Interval, word: u64) -> Result<(), Fault>
+    ensures { left_with (M.areas memory.new) result ≡ copied (M.areas memory.old) (Some to) (Ok (low_digits 8 word)) }
+{
+    write(memory, to, &bytes8(word))
+}
+
+/// Writes a number of 16 bytes to the start of a cell.
+#[inline(never)]
+fn write16<M: Memory>(memory: &mut M, to: Interval, word: u128) -> Result<(), Fault>
+    ensures { left_with (M.areas memory.new) result ≡ copied (M.areas memory.old) (Some to) (Ok (low_digits 16 word)) }
+{
+    write(memory, to, &bytes16(word))
+}
+
+/// Writes a truth value to the start of a cell.
+#[inline(always)]
+fn write_truth<M: Memory>(memory: &mut M, to: Interval, truth: bool) -> Result<(), Fault>
+    ensures { left_with (M.areas memory.new) result ≡ copied (M.areas memory.old) (Some to) (Ok (low_digits 1 (from_bool truth))) }
+{
+    write(memory, to, &byte_of(truth))
+}
+
+/// Writes a number or a truth value to the start of a cell. Each size has a function of its own, so that what one needs isn't made ready for the others.
+#[inline(always)]
+fn assign_made<M: Memory>(memory: &mut M, to: Interval, made: Made) -> Result<(), Fault>
+    ensures { left_with (M.areas memory.new) result ≡ copied (M.areas memory.old) (Some to) (Ok (made_bytes made)) }
+{
+    match made {
+        Made::Word1(word) => write1(memory, to, word),
+        Made::Word2(word) => write2(memory, to, word),
+        Made::Word4(word) => write4(memory, to, word),
+        Made::Word8(word) => write8(memory, to, word),
+        Made::WideWord(word) => Ok(write16(memory, to, word)?),
+        Made::Truth(truth) => write_truth(memory, to, truth),
+    }
+}
+
+/// Assigns to a spot what an operator makes of two operands of one kind, where that can be done without the statement. Where it can't, nothing has changed.
+#[inline(always)]
+fn put_combined<M: Memory, const FAR: bool>(
+    frame: StackFrame<'_, '_>,
+    memory: &mut M,
+    op: BinOp,
+    kind: Kind,
+    to: &Spot,
+    left: &Source,
+    right: &Source,
+) -> Option<Result<(), Fault>>
+    ensures done { IfSome result (λ done. (statement : StatementKind) → Says (code_in (frame_of frame.entry)) (Combine op kind to.now left.now right.now) statement → left_with (M.areas memory.new) done ≡ after_statement (frame_of frame.entry) (M.areas memory.old) statement) }
+    ensures kept { IfNone result (M.areas memory.new ≡ M.areas memory.old) }
+{
+    let to = find::<M, FAR>(frame, memory, to)?;
+    let made = combine::<M, FAR>(frame, memory, op, kind, left, right)?;
+    Some(assign_made(memory, to, made))
+}
+
+/// Copies the value at a spot to another one, where that can be done without the statement. Where it can't, nothing has changed.
+#[inline(always)]
+fn put_copy<M: Memory, const FAR: bool>(
     frame: StackFrame<'_, '_>,
     memory: &mut M,
     to: &Spot,
     from: &Spot,
-) -> Result<(), Fault>
-    ensures { left_with (M.areas memory.new) result ≡ copied (M.areas memory.old) (spot_cell frame.entry.cells.now to.now) (read (option_and_then (cell_bytes (M.areas memory.old)) (spot_cell frame.entry.cells.now from.now))) }
+) -> Option<Result<(), Fault>>
+    ensures done { IfSome result (λ done. (statement : StatementKind) → Says (code_in (frame_of frame.entry)) (Copy to.now from.now) statement → left_with (M.areas memory.new) done ≡ after_statement (frame_of frame.entry) (M.areas memory.old) statement) }
+    ensures kept { IfNone result (M.areas memory.new ≡ M.areas memory.old) }
 {
-    match cell_of_spot(frame.cells, to) {
-        Some(to) => match cell_of_spot(frame.cells, from) {
-            Some(from) => copy(memory, from, to),
-            None => Err(Fault::BadRead),
-        },
-        None => Err(Fault::BadWrite),
-    }
+    let to = find::<M, FAR>(frame, memory, to)?;
+    let from = find::<M, FAR>(frame, memory, from)?;
+    Some(copy(memory, from, to))
 }
 
-/// Assigns a constant to a spot.
+/// Assigns a constant to a spot, where that can be done without the statement. Where it can't, nothing has changed.
 #[inline(always)]
-#[tactic(auto, unfolding(mir::specs::Run::copied))]
-fn put<M: Memory>(
+fn put_constant<M: Memory, const FAR: bool>(
     frame: StackFrame<'_, '_>,
     memory: &mut M,
     to: &Spot,
     value: &Short,
-) -> Result<(), Fault>
-    ensures { left_with (M.areas memory.new) result ≡ copied (M.areas memory.old) (spot_cell frame.entry.cells.now to.now) (Ok (short_bytes value.now)) }
+) -> Option<Result<(), Fault>>
+    ensures done { IfSome result (λ done. (statement : StatementKind) → Says (code_in (frame_of frame.entry)) (Put to.now value.now) statement → left_with (M.areas memory.new) done ≡ after_statement (frame_of frame.entry) (M.areas memory.old) statement) }
+    ensures kept { IfNone result (M.areas memory.new ≡ M.areas memory.old) }
 {
-    match cell_of_spot(frame.cells, to) {
-        Some(to) => write(memory, to, value.bytes()),
-        None => Err(Fault::BadWrite),
-    }
+    let to = find::<M, FAR>(frame, memory, to)?;
+    Some(write(memory, to, value.bytes()))
 }
 
 /// Does an action, where it can be done without the statement that it is read off. Where it can't, nothing has changed.
 #[inline(always)]
-fn act<M: Memory>(
+fn act<M: Memory, const FAR: bool>(
     frame: StackFrame<'_, '_>,
     memory: &mut M,
     action: &Action,
@@ -143,14 +237,45 @@ fn act<M: Memory>(
             to,
             left,
             right,
-        } => {
-            let made = combine(frame, memory, *op, *kind, left, right)?;
-            Some(assign_made(frame, memory, to, made))
-        }
-        Action::Copy { to, from } => Some(copy_value(frame, memory, to, from)),
-        Action::Put { to, value } => Some(put(frame, memory, to, value)),
+        } => put_combined::<M, FAR>(frame, memory, *op, *kind, to, left, right),
+        Action::Copy { to, from } => put_copy::<M, FAR>(frame, memory, to, from),
+        Action::Put { to, value } => put_constant::<M, FAR>(frame, memory, to, value),
         Action::Other => None,
     }
+}
+
+/// Runs the statement of a row, wherever its values lie. It stays out of the loop over rows, which has code of its own for what lies behind no indices.
+#[inline(never)]
+fn run_far<M: Memory>(
+    frame: StackFrame<'_, '_>,
+    memory: &mut M,
+    block: &BasicBlock,
+    row: &Row,
+) -> Result<(), Fault>
+    requires { (statement : Statement) × IsRow (code_in (frame_of frame)) block.now.statements statement row.now }
+    ensures { (statement : Statement) → IsRow (code_in (frame_of frame.entry)) block.now.statements statement row.now → OrNoMemory result (left_with (M.areas memory.new) result ≡ after_statement (frame_of frame.entry) (M.areas memory.old) statement.kind) }
+{
+    match act::<M, true>(frame, memory, &row.action) {
+        Some(done) => done,
+        None => match block.statements.get(row.place) {
+            Some(statement) => execute(frame, memory, &statement.kind),
+            None => unreachable!(),
+        },
+    }
+}
+
+/// The same, as the loop over rows calls it: what the call needs is made ready here.
+#[inline(always)]
+fn leave_row<M: Memory>(
+    frame: StackFrame<'_, '_>,
+    memory: &mut M,
+    block: &BasicBlock,
+    row: &Row,
+) -> Result<(), Fault>
+    requires { (statement : Statement) × IsRow (code_in (frame_of frame)) block.now.statements statement row.now }
+    ensures { (statement : Statement) → IsRow (code_in (frame_of frame.entry)) block.now.statements statement row.now → OrNoMemory result (left_with (M.areas memory.new) result ≡ after_statement (frame_of frame.entry) (M.areas memory.old) statement.kind) }
+{
+    run_far(frame, memory, block, row)
 }
 
 /// Runs the statement of a row.
@@ -164,12 +289,9 @@ fn run_row<M: Memory>(
     requires { (statement : Statement) × IsRow (code_in (frame_of frame)) block.now.statements statement row.now }
     ensures { (statement : Statement) → IsRow (code_in (frame_of frame.entry)) block.now.statements statement row.now → OrNoMemory result (left_with (M.areas memory.new) result ≡ after_statement (frame_of frame.entry) (M.areas memory.old) statement.kind) }
 {
-    match act(frame, memory, &row.action) {
+    match act::<M, false>(frame, memory, &row.action) {
         Some(done) => done,
-        None => match block.statements.get(row.place) {
-            Some(statement) => execute(frame, memory, &statement.kind),
-            None => unreachable!(),
-        },
+        None => Ok(leave_row(frame, memory, block, row)?),
     }
 }
 

@@ -7,4 +7,4 @@ mod operators;
 mod words;
 
 pub use made::{Made, byte_of, bytes1, bytes2, bytes4, bytes8, bytes16};
-pub use operators::made_of;
+pub use operators::{made_of, word_made_of};

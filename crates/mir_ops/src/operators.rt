@@ -240,3 +240,45 @@ pub fn made_of(op: Operator, kind: Kind, left: &[u8], right: &[u8]) -> Option<Ma
         }
     }
 }
+
+/// What an operator makes of two unsigned numbers of 4 or of 8 bytes, where it makes something.
+#[inline(always)]
+fn words_unsigned(op: Operator, left: &[u8], right: &[u8]) -> Option<Made>
+    requires { length right.now ≡ length left.now }
+    ensures { IfSome result (λ made. computed op (Some Kind.Unsigned) (Some Kind.Unsigned) left.now right.now ≡ Computes (made_bytes made)) }
+{
+    match left.len() {
+        4 => sized_unsigned(op, Size::Four, left, right),
+        8 => sized_unsigned(op, Size::Eight, left, right),
+        _ => None,
+    }
+}
+
+/// What an operator makes of two signed numbers of 4 or of 8 bytes, where it makes something.
+#[inline(always)]
+fn words_signed(op: Operator, left: &[u8], right: &[u8]) -> Option<Made>
+    requires { length right.now ≡ length left.now }
+    ensures { IfSome result (λ made. computed op (Some Kind.Signed) (Some Kind.Signed) left.now right.now ≡ Computes (made_bytes made)) }
+{
+    match left.len() {
+        4 => sized_signed(op, Size::Four, left, right),
+        8 => sized_signed(op, Size::Eight, left, right),
+        _ => None,
+    }
+}
+
+/// The same as `made_of` for operands of the frequent sizes alone, without a call: what it makes fits a register.
+#[inline(always)]
+pub fn word_made_of(op: Operator, kind: Kind, left: &[u8], right: &[u8]) -> Option<Made>
+    ensures { IfSome result (λ made. computed op (Some kind) (Some kind) left.now right.now ≡ Computes (made_bytes made)) }
+{
+    if left.len() != right.len() {
+        return None;
+    }
+    match kind {
+        Kind::Signed => words_signed(op, left, right),
+        Kind::Unsigned => words_unsigned(op, left, right),
+        Kind::Character => None,
+        Kind::Boolean => None,
+    }
+}

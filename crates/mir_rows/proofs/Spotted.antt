@@ -1,6 +1,6 @@
 -- The spots of places: whole cells, and parts of cells.
 use Rattle.std.proofs.Common.{◌≡◌, ℕ, Bool, true, false, [], ◌∷◌, length, Option, Some, None, slice_get, sym, ap, refl, ◌∙◌, arith, eqb-true}
-use Rattle.std.specs.Prelude.{if◌then◌else◌, ◌==◌, option_and_then}
+use Rattle.std.specs.Prelude.{IfSome, if◌then◌else◌, ◌==◌, option_and_then}
 use Rattle.either.specs.declared.Either.TheVariants.{Left, Right}
 use Rattle.types.specs.declared.ty.Ty.{Ty}
 use Rattle.world.specs.declared.database.HirDatabase.{HirDatabase}
@@ -14,9 +14,12 @@ use Rattle.mir.specs.Places.{added, cell_at, cell_behind, elem_offset, elem_type
 use Rattle.mir.specs.ProjectedTypes.{array_length}
 use Rattle.mir.specs.Projections.{Projection, projection_of}
 use Rattle.mir.proofs.Bounds.{offset-within}
+use Rattle.mir_rows.specs.declared.spots.Spot.{Spot}
 use Rattle.mir_rows.specs.declared.spots.Spot.TheVariants as spot
-use Rattle.mir_rows.specs.Spots.{IsSpot, Prepared}
-use Rattle.mir_rows.proofs.Walks.{laid-by}
+use Rattle.mir_rows.specs.declared.steps.Reach.{Reach}
+use Rattle.mir_rows.specs.Spots.{IsBehind, IsSpot, Prepared}
+use Rattle.mir_rows.specs.Steps.{Reaches}
+use Rattle.mir_rows.proofs.Walks.{laid-all}
 
 -- what is found by two functions that are the same at each place
 and-then-same : {A B : Type 0} (f g : A → Option B) → ((x : A) → f x ≡ g x) → (found : Option A) → option_and_then f found ≡ option_and_then g found
@@ -66,7 +69,7 @@ module _ (code : Prepared) (place : Place) where
   unfolding place_cell is_out_of_bounds leads_past
   whole none = record {
     lies = λ numbers cells. ap (cell_at code.world code.body numbers cells place) none;
-    within = λ numbers. ap (past_at code.world code.body numbers place) none;
+    past = λ numbers. ap (past_at code.world code.body numbers place) none;
   }
 
   pub whole-empty-id : (place.projection.0 == 0) ≡ true → IsSpot code place (spot.Whole place.local)
@@ -76,20 +79,42 @@ module _ (code : Prepared) (place : Place) where
   whole-empty some [] are empty = whole (at-id some [] are)
   whole-empty some (elem ∷ rest) are empty = absurd (let zero-long : length (elem ∷ rest) ≡ 0 = eqb-true (length (elem ∷ rest)) 0 empty in omega (arith, zero-long))
 
-  -- and elsewhere what the elements lead to is a part of one, where no index is among them
-  pub part : (place.projection.0 == 0) ≡ false → (elements : Projection) → Some elements ≡ projection_of code.body.projection_store.projections place.projection → (length elements == 0) ≡ false →
-      (offset : ℕ) → offset_behind code.world no-numbers elements (local_type code.body place.local) ≡ Some offset → (seen : Ty) → Some seen ≡ type_behind code.world elements (local_type code.body place.local) →
-      (layout : Layout) → Some layout ≡ layout_of code.world seen → IsSpot code place (spot.Part place.local offset layout.size)
+  -- and elsewhere it is where the elements lead to
+  pub behind : (place.projection.0 == 0) ≡ false → (elements : Projection) → Some elements ≡ projection_of code.body.projection_store.projections place.projection → (length elements == 0) ≡ false →
+      (seen : Ty) → Some seen ≡ type_behind code.world elements (local_type code.body place.local) → (layout : Layout) → Some layout ≡ layout_of code.world seen →
+      (spot : Spot) → IsBehind code.world place.local elements (local_type code.body place.local) layout.size spot → IsSpot code place spot
   unfolding place_cell is_out_of_bounds
-  part some [] are empty offset at seen is layout laid = absurd cc
-  part some (elem ∷ rest) are empty offset at seen is layout laid =
+  behind some [] are empty seen is layout laid spot leads = absurd cc
+  behind some (elem ∷ rest) are empty seen is layout laid spot leads =
       let ty = local_type code.body place.local in
       record {
         lies = λ numbers cells.
             ap (cell_at code.world code.body numbers cells place) (at-id some (elem ∷ rest) are)
-            ∙ and-then-same (cell_behind code.world numbers (elem ∷ rest) ty) (λ cell. part_of_cell cell offset layout.size)
-            (λ cell. sym (laid-by code.world numbers (elem ∷ rest) ty cell empty offset (sym (any-offset code.world numbers (elem ∷ rest) ty offset at)) seen is (Some layout) laid)) (slice_get cells place.local.0);
-        within = λ numbers.
+            ∙ and-then-same (cell_behind code.world numbers (elem ∷ rest) ty) (λ cell. option_and_then (λ offset. part_of_cell cell offset layout.size) (offset_behind code.world numbers (elem ∷ rest) ty))
+            (λ cell. sym (laid-all code.world numbers (elem ∷ rest) ty cell empty seen is layout laid)) (slice_get cells place.local.0)
+            ∙ leads.lies numbers cells;
+        past = λ numbers.
             ap (past_at code.world code.body numbers place) (at-id some (elem ∷ rest) are)
-            ∙ offset-within code.world numbers (elem ∷ rest) ty offset (any-offset code.world numbers (elem ∷ rest) ty offset at);
+            ∙ leads.past numbers;
       }
+
+  pub behind-maybe : (place.projection.0 == 0) ≡ false → (elements : Projection) → Some elements ≡ projection_of code.body.projection_store.projections place.projection → (length elements == 0) ≡ false →
+      (seen : Ty) → Some seen ≡ type_behind code.world elements (local_type code.body place.local) → (layout : Layout) → Some layout ≡ layout_of code.world seen →
+      (spot : Option Spot) → IfSome spot (IsBehind code.world place.local elements (local_type code.body place.local) layout.size) → IfSome spot (IsSpot code place)
+  behind-maybe some elements are empty seen is layout laid (Some spot) leads = behind some elements are empty seen is layout laid spot leads
+  behind-maybe some elements are empty seen is layout laid None leads = tt
+
+module _ (world : HirDatabase) (local : LocalId) (elements : Projection) (ty : Option Ty) (size : ℕ) where
+  -- a part of a cell, where no index is among the elements
+  pub part : (offset : ℕ) → offset_behind world no-numbers elements ty ≡ Some offset → IsBehind world local elements ty size (spot.Part local offset size)
+  part offset at = record {
+    lies = λ numbers cells. ap (λ (o : Option ℕ). option_and_then (λ cell. option_and_then (λ n. part_of_cell cell n size) o) (slice_get cells local.0)) (any-offset world numbers elements ty offset at);
+    past = λ numbers. offset-within world numbers elements ty offset (any-offset world numbers elements ty offset at);
+  }
+
+  -- as far as a reach leads
+  pub element : (reach : Reach) → Reaches world elements ty reach → IsBehind world local elements ty size (spot.Indexed (record { local = local; size = size; reach = reach }))
+  element reach reaches = record {
+    lies = λ numbers cells. ap (λ (o : Option ℕ). option_and_then (λ cell. option_and_then (λ n. part_of_cell cell n size) o) (slice_get cells local.0)) (reaches.offset numbers);
+    past = reaches.past;
+  }

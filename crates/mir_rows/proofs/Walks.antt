@@ -77,12 +77,12 @@ module _ (elements : Projection) (i : ℕ) (elem : PlaceElem) (less : i < length
   type-next world ty = ap (λ (es : Projection). type_behind world es ty) (from-here elements i elem less is)
 
   -- the offset behind one more element
-  offset-next : (world : HirDatabase) (numbers : LocalId → Option ℕ) (ty : Option Ty) → offset_behind world numbers (drop i elements) ty ≡ added (option_and_then (elem_offset world numbers elem) ty) (offset_behind world numbers (drop (i + 1) elements) (option_and_then (elem_type world elem) ty))
+  pub offset-next : (world : HirDatabase) (numbers : LocalId → Option ℕ) (ty : Option Ty) → offset_behind world numbers (drop i elements) ty ≡ added (option_and_then (elem_offset world numbers elem) ty) (offset_behind world numbers (drop (i + 1) elements) (option_and_then (elem_type world elem) ty))
   unfolding offset_behind
   offset-next world numbers ty = ap (λ (es : Projection). offset_behind world numbers es ty) (from-here elements i elem less is)
 
   -- whether one more element is past its array's end, or one behind it
-  past-next : (world : HirDatabase) (numbers : LocalId → Option ℕ) (ty : Option Ty) → leads_past world numbers (drop i elements) ty ≡ (elem_past numbers elem ty || leads_past world numbers (drop (i + 1) elements) (option_and_then (elem_type world elem) ty))
+  pub past-next : (world : HirDatabase) (numbers : LocalId → Option ℕ) (ty : Option Ty) → leads_past world numbers (drop i elements) ty ≡ (elem_past numbers elem ty || leads_past world numbers (drop (i + 1) elements) (option_and_then (elem_type world elem) ty))
   unfolding leads_past
   past-next world numbers ty = ap (λ (es : Projection). leads_past world numbers es ty) (from-here elements i elem less is)
 
@@ -173,6 +173,13 @@ module _ (world : HirDatabase) (numbers : LocalId → Option ℕ) (elements : Pr
   laid-by some offset is seen same layout laid =
       ap (λ (l : Option Layout). option_and_then (part_of_cell cell offset) (option_map (λ layout. layout.size) l)) laid
       ∙ behind-by some (Some offset) is (Some seen) same
+
+  -- the same of an offset that there may be
+  pub laid-all : (length elements == 0) ≡ false → (seen : Ty) → Some seen ≡ type_behind world elements ty → (layout : Layout) → Some layout ≡ layout_of world seen
+      → option_and_then (λ offset. part_of_cell cell offset layout.size) (offset_behind world numbers elements ty) ≡ cell_behind world numbers elements ty cell
+  laid-all some seen same layout laid =
+      ap (λ (l : Option Layout). option_and_then (λ n. option_and_then (part_of_cell cell n) (option_map (λ layout. layout.size) l)) (offset_behind world numbers elements ty)) laid
+      ∙ behind-by some (offset_behind world numbers elements ty) refl (Some seen) same
 
 -- where a place's value lies whose elements are known
 pub cell-by : (world : HirDatabase) (body : MirBody) (numbers : LocalId → Option ℕ) (cells : List Interval) (place : Place) (elements : Projection) (cell : Interval) → Some cell ≡ slice_get cells place.local.0

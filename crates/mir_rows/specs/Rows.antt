@@ -44,8 +44,8 @@ constant_in (operand.Constant konst ty) = constant_bytes konst
 -- a source is what an operand says
 abbrev pub IsSource : Prepared → Source → OperandKind → Type 0
 IsSource code (source.Whole local) kind = LiesAt code (spot.Whole local) kind
-IsSource code (source.Part local offset size) kind = LiesAt code (spot.Part local offset size) kind
 IsSource code (source.Constant short) kind = constant_in kind ≡ Some (short_bytes short)
+IsSource code (source.At spot) kind = LiesAt code spot kind
 
 -- two sources are what two operands say, and the bytes of both are of a kind
 pub record AreOperands (code : Prepared) (kind : Kind) (first second : Source) (one other : OperandKind) : Type 0 where

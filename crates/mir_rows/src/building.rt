@@ -31,21 +31,13 @@ fn short(bytes: &[u8]) -> Option<Short>
 }
 
 /// What an operator reads of an operand, where that has a spot, or is a constant of at most 16 bytes.
-fn source(db: &HirDatabase, body: &MirBody, operand: &OperandKind) -> Option<Source>
+fn source(alloc: Global, db: &HirDatabase, body: &MirBody, operand: &OperandKind) -> Option<Source>
     ensures { IfSome result (λ source. IsSource (prepared db.now body.now) source operand.now) }
 {
     match operand {
-        OperandKind::Copy(place) => match spot_of(db, body, *place)? {
+        OperandKind::Copy(place) => match spot_of(alloc, db, body, *place)? {
             Spot::Whole(local) => Some(Source::Whole(local)),
-            Spot::Part {
-                local,
-                offset,
-                size,
-            } => Some(Source::Part {
-                local,
-                offset,
-                size,
-            }),
+            spot => Some(Source::At(spot)),
         },
         OperandKind::Constant { konst, .. } => {
             Some(Source::Constant(short(constant_bytes(konst)?)?))
@@ -55,6 +47,7 @@ fn source(db: &HirDatabase, body: &MirBody, operand: &OperandKind) -> Option<Sou
 
 /// The assignment of what an operator makes of two operands, where the place has a spot, and the operands are of one kind and have sources.
 fn combine(
+    alloc: Global,
     db: &HirDatabase,
     body: &MirBody,
     to: Place,
@@ -64,15 +57,15 @@ fn combine(
 ) -> Option<Action>
     ensures { IfSome result (λ action. Says (prepared db.now body.now) action (Assign to (CheckedBinaryOp op left.now right.now))) }
 {
-    let to = spot_of(db, body, to)?;
+    let to = spot_of(alloc, db, body, to)?;
     let kind = operand_kind(db, body, &left.kind)?;
     if operand_kind(db, body, &right.kind)? == kind {
         Some(Action::Combine {
             op,
             kind,
             to,
-            left: source(db, body, &left.kind)?,
-            right: source(db, body, &right.kind)?,
+            left: source(alloc, db, body, &left.kind)?,
+            right: source(alloc, db, body, &right.kind)?,
         })
     } else {
         None
@@ -80,14 +73,20 @@ fn combine(
 }
 
 /// The assignment of an operand, where the place has a spot, and the operand has one too or is a constant of at most 16 bytes.
-fn put(db: &HirDatabase, body: &MirBody, to: Place, operand: &Operand) -> Option<Action>
+fn put(
+    alloc: Global,
+    db: &HirDatabase,
+    body: &MirBody,
+    to: Place,
+    operand: &Operand,
+) -> Option<Action>
     ensures { IfSome result (λ action. Says (prepared db.now body.now) action (Assign to (Use operand.now))) }
 {
-    let to = spot_of(db, body, to)?;
+    let to = spot_of(alloc, db, body, to)?;
     match &operand.kind {
         OperandKind::Copy(from) => Some(Action::Copy {
             to,
-            from: spot_of(db, body, *from)?,
+            from: spot_of(alloc, db, body, *from)?,
         }),
         OperandKind::Constant { konst, .. } => Some(Action::Put {
             to,
@@ -97,14 +96,14 @@ fn put(db: &HirDatabase, body: &MirBody, to: Place, operand: &Operand) -> Option
 }
 
 /// What a statement does.
-fn action(db: &HirDatabase, body: &MirBody, statement: &StatementKind) -> Action
+fn action(alloc: Global, db: &HirDatabase, body: &MirBody, statement: &StatementKind) -> Action
     ensures { Says (prepared db.now body.now) result statement.now }
 {
     let found = match statement {
         StatementKind::Assign(to, Rvalue::CheckedBinaryOp(op, left, right)) => {
-            combine(db, body, *to, *op, left, right)
+            combine(alloc, db, body, *to, *op, left, right)
         }
-        StatementKind::Assign(to, Rvalue::Use(operand)) => put(db, body, *to, operand),
+        StatementKind::Assign(to, Rvalue::Use(operand)) => put(alloc, db, body, *to, operand),
         _ => None,
     };
     found.unwrap_or(Action::Other)
@@ -133,20 +132,26 @@ fn rows(
         }
         rows.push(Row {
             place: i as u64,
-            action: action(db, body, &statement.kind),
+            action: action(alloc, db, body, &statement.kind),
         })?;
     }
     Ok(rows)
 }
 
 /// Where a switch leads that tests the byte at a spot for one number.
-fn branch(db: &HirDatabase, body: &MirBody, discr: &Operand, targets: &SwitchTargets) -> Option<Way>
+fn branch(
+    alloc: Global,
+    db: &HirDatabase,
+    body: &MirBody,
+    discr: &Operand,
+    targets: &SwitchTargets,
+) -> Option<Way>
     ensures { IfSome result (λ way. Leads (prepared db.now body.now) way (SwitchInt discr.now targets.now)) }
 {
     let OperandKind::Copy(place) = &discr.kind else {
         return None;
     };
-    let spot = spot_of(db, body, *place)?;
+    let spot = spot_of(alloc, db, body, *place)?;
     let mut pairs = targets.iter();
     let (value, then) = pairs.next()?;
     if pairs.next().is_some() {
@@ -162,7 +167,7 @@ fn branch(db: &HirDatabase, body: &MirBody, discr: &Operand, targets: &SwitchTar
 }
 
 /// How a block ends.
-fn way(db: &HirDatabase, body: &MirBody, terminator: &Option<Terminator>) -> Way
+fn way(alloc: Global, db: &HirDatabase, body: &MirBody, terminator: &Option<Terminator>) -> Way
     ensures { IsWay (prepared db.now body.now) result terminator.now }
 {
     let Some(terminator) = terminator else {
@@ -172,7 +177,7 @@ fn way(db: &HirDatabase, body: &MirBody, terminator: &Option<Terminator>) -> Way
         TerminatorKind::Goto { target } => Way::Goto(*target),
         TerminatorKind::Drop { target, .. } => Way::Goto(*target),
         TerminatorKind::SwitchInt { discr, targets } => {
-            branch(db, body, discr, targets).unwrap_or(Way::Other)
+            branch(alloc, db, body, discr, targets).unwrap_or(Way::Other)
         }
         _ => Way::Other,
     }
@@ -189,7 +194,7 @@ fn block_rows(
 {
     Ok(BlockRows {
         rows: rows(alloc, db, body, block.statements.as_slice())?,
-        way: way(db, body, &block.terminator),
+        way: way(alloc, db, body, &block.terminator),
     })
 }
 

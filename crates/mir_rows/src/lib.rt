@@ -14,6 +14,7 @@ mod operands;
 mod places;
 mod row;
 mod spots;
+mod steps;
 
 pub use arrays::Numbers;
 pub use bounds::{assigns_out, is_out_of_bounds, operand_out, some_out};
@@ -24,4 +25,5 @@ pub use layouts::struct_layout;
 pub use operands::{constant_bytes, operand_kind};
 pub use places::{cell_of, place_cell, place_type};
 pub use row::{Action, BlockRows, Row, Short, Source, Way};
-pub use spots::{Spot, cell_of_spot, part_of_local, spot_cell};
+pub use spots::{Element, Spot, cell_of_element, part_of_local};
+pub use steps::{Reach, Step};

@@ -49,7 +49,12 @@ fn part_offset(db: &HirDatabase, index: u32, ty: &Ty) -> Option<u64>
 }
 
 /// How far behind the first byte of a value of a type what an element leads to begins: the greatest number in place of a greater one.
-fn elem_offset<N: Numbers>(db: &HirDatabase, numbers: &N, elem: &PlaceElem, ty: &Ty) -> Option<u128>
+pub(crate) fn elem_offset<N: Numbers>(
+    db: &HirDatabase,
+    numbers: &N,
+    elem: &PlaceElem,
+    ty: &Ty,
+) -> Option<u128>
     ensures { result ≡ option_map saturated (elem_offset db.now (N.held numbers.now) elem.now ty.now) }
 {
     match elem {

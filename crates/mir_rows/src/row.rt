@@ -24,21 +24,17 @@ impl Short {
     }
 }
 
-/// What an operator reads: the value of a local, so many bytes of one from an offset on, or a constant. Where the value lies isn't a `Spot`
-/// of its own, so that a run has one test for each operand.
-#[derive(Clone, Copy, PartialEq, Eq, Debug)]
+/// What an operator reads: the value of a local, a constant, or the value at another spot. A whole local isn't told by its spot, so that a run has one test for each
+/// operand.
+#[derive(Drop)]
 pub enum Source {
     Whole(LocalId),
-    Part {
-        local: LocalId,
-        offset: u64,
-        size: u64,
-    },
     Constant(Short),
+    At(Spot),
 }
 
 /// What a statement does.
-#[derive(Clone, Copy, PartialEq, Eq, Debug)]
+#[derive(Drop)]
 pub enum Action {
     /// It assigns to a spot what an operator makes of two operands of one kind.
     Combine {
@@ -63,14 +59,14 @@ pub enum Action {
 }
 
 /// A statement: its place in its block, counted from 0, and what it does.
-#[derive(Clone, Copy, PartialEq, Eq, Debug)]
+#[derive(Drop)]
 pub struct Row {
     pub place: u64,
     pub action: Action,
 }
 
 /// How a block ends.
-#[derive(Clone, Copy, PartialEq, Eq, Debug)]
+#[derive(Drop)]
 pub enum Way {
     /// It leads to a block.
     Goto(BasicBlockId),

@@ -1,19 +1,32 @@
 //! Spots: where the values of places lie in the cells of locals, read off a body and its world once.
 
-ghost use Rattle.std.specs.Prelude.{◌≡◌, ◌^◌, ◌<◌, IfSome};
+ghost use Rattle.std.specs.Prelude.{◌≡◌, ◌^◌, ◌<◌, IfSome, option_and_then, slice_get};
+ghost use Rattle.std.specs.Option.{option_copied};
 ghost use Rattle.mir.specs.Addresses.{moved, usize_of};
 ghost use Rattle.mir.specs.Places.{part_of_cell};
 ghost use Rattle.mir_rows.specs.Places.{HasEnd, HaveEnds};
-ghost use Rattle.mir_rows.specs.declared.spots.Spot.TheVariants.{Part};
-ghost use Rattle.mir_rows.specs.Spots.{prepared, spot_cell, IsSpot};
+ghost use Rattle.mir_rows.specs.declared.spots.Spot.TheVariants.{Indexed};
+ghost use Rattle.mir_rows.specs.Spots.{prepared, IsBehind, IsSpot, LiesNow};
 
-use crate::arrays::NoNumbers;
+use crate::arrays::{NoNumbers, Numbers};
 use crate::places::{cell_of, elements, local_type, offset_behind, type_behind};
-use mir::{Address, Interval, LocalId, MirBody, Place};
-use world::HirDatabase;
+use crate::steps::{Reach, reach_of, start};
+use mir::{Address, Interval, LocalId, MirBody, Place, PlaceElem};
+use std::alloc::Global;
+use types::Box;
+use world::{HirDatabase, Ty};
 
-/// Where the value of a place lies: in the whole cell of a local, or in so many bytes of it from an offset on.
+/// Where the value of a place behind indices lies: in so many bytes of a local's cell from where a reach leads on.
 #[derive(Clone, Copy, PartialEq, Eq, Debug)]
+pub struct Element {
+    pub local: LocalId,
+    pub size: u64,
+    pub reach: Reach,
+}
+
+/// Where the value of a place lies: in the whole cell of a local, in so many bytes of it from an offset on, or behind indices. What lies behind indices stands in a box,
+/// so that it doesn't make each row larger.
+#[derive(Drop)]
 pub enum Spot {
     Whole(LocalId),
     Part {
@@ -21,10 +34,35 @@ pub enum Spot {
         offset: u64,
         size: u64,
     },
+    Indexed(Box<Element>),
 }
 
-/// Where the value of a place lies, as the layouts of the world say it, where an offset of 64 bits leads there, and no index.
-pub(crate) fn spot_of(db: &HirDatabase, body: &MirBody, place: Place) -> Option<Spot>
+/// The spot that elements lead to from a local of a type, where the last leads to a value of a size: by an offset of 64 bits, or by at most two indices.
+fn spot_behind(
+    alloc: Global,
+    db: &HirDatabase,
+    local: LocalId,
+    elements: &[PlaceElem],
+    ty: Option<&Ty>,
+    size: u64,
+) -> Option<Spot>
+    ensures { IfSome result (λ spot. IsBehind db.now local elements.now (option_copied ty.entry) size spot) }
+{
+    match offset_behind(db, &NoNumbers, elements, ty) {
+        Some(offset) => Some(Spot::Part {
+            local,
+            offset: u64::try_from(offset).ok()?,
+            size,
+        }),
+        None => {
+            let reach = reach_of(db, elements, ty)?;
+            Some(Spot::Indexed(Box::new(alloc, Element { local, size, reach }).ok()?))
+        }
+    }
+}
+
+/// Where the value of a place lies, as the layouts of the world say it, where an offset of 64 bits leads there, or at most two indices do.
+pub(crate) fn spot_of(alloc: Global, db: &HirDatabase, body: &MirBody, place: Place) -> Option<Spot>
     ensures { IfSome result (λ spot. IsSpot (prepared db.now body.now) place spot) }
 {
     if place.projection.0 == 0 {
@@ -35,17 +73,9 @@ pub(crate) fn spot_of(db: &HirDatabase, body: &MirBody, place: Place) -> Option<
         return Some(Spot::Whole(place.local));
     }
     let ty = local_type(body, place.local);
-    let offset = offset_behind(db, &NoNumbers, elements, ty)?;
     let seen = type_behind(db, elements, ty)?;
     let layout = db.layout_of(seen)?;
-    if offset > u64::MAX as u128 {
-        return None;
-    }
-    Some(Spot::Part {
-        local: place.local,
-        offset: offset as u64,
-        size: layout.size,
-    })
+    spot_behind(alloc, db, place.local, elements, ty, layout.size)
 }
 
 /// The address that is a number of bytes further on.
@@ -79,12 +109,11 @@ pub(crate) fn part(cell: Interval, offset: u64, size: u64) -> Option<Interval>
     })
 }
 
-/// So many bytes of a local's cell from an offset on, where the local has a cell with as many. It stays out of code that runs whole
-/// cells.
-#[inline(never)]
+/// So many bytes of a local's cell from an offset on, where the local has a cell with as many.
+#[inline(always)]
 pub fn part_of_local(cells: &[Interval], local: LocalId, offset: u64, size: u64) -> Option<Interval>
     requires { HaveEnds cells.now }
-    ensures { result ≡ spot_cell cells.now (Part local offset size) }
+    ensures { result ≡ option_and_then (λ cell. part_of_cell cell offset size) (slice_get cells.now local.0) }
 {
     match cell_of(cells, local) {
         Some(cell) => part(cell, offset, size),
@@ -92,30 +121,16 @@ pub fn part_of_local(cells: &[Interval], local: LocalId, offset: u64, size: u64)
     }
 }
 
-/// Where a spot lies, by the cells of the locals.
+/// Where the value of a place behind indices lies now, where it is within bounds.
 #[inline(always)]
-pub fn spot_cell(cells: &[Interval], spot: Spot) -> Option<Interval>
+pub fn cell_of_element<N: Numbers>(
+    numbers: &N,
+    cells: &[Interval],
+    element: &Element,
+) -> Option<Interval>
     requires { HaveEnds cells.now }
-    ensures { result ≡ spot_cell cells.now spot }
+    ensures { IfSome result (LiesNow (N.held numbers.now) cells.now (Indexed element.now)) }
 {
-    match spot {
-        Spot::Whole(local) => cell_of(cells, local),
-        Spot::Part {
-            local,
-            offset,
-            size,
-        } => part_of_local(cells, local, offset, size),
-    }
-}
-
-/// Where a spot lies, by the cells of the locals. A whole cell is found first.
-#[inline(always)]
-pub fn cell_of_spot(cells: &[Interval], spot: &Spot) -> Option<Interval>
-    requires { HaveEnds cells.now }
-    ensures { result ≡ spot_cell cells.now spot.now }
-{
-    match spot {
-        Spot::Whole(local) => cell_of(cells, *local),
-        Spot::Part { .. } => spot_cell(cells, *spot),
-    }
+    let offset = start(numbers, &element.reach)?;
+    part_of_local(cells, element.local, offset, element.size)
 }
