@@ -1,13 +1,13 @@
--- The written fields of a struct literal, and the operands that they give to the fields of the struct.
-use Rattle.std.proofs.Common.{◌≡◌, ℕ, zero, suc, ◌+◌, ◌<◌, ◌≤◌, ◌==◌, Bool, true, false, cond, List, [], ◌∷◌, ◌++◌, length, drop, get_or, slice_get, Option, Some, None, option_map, option_and_then, if◌then◌else◌, refl, sym, ap, ◌∙◌, subst, arith, ltb-true, append-nil, append_assoc}
+-- The written fields of a struct literal and the arguments of a constructor, and the operands that they give to the fields of the struct.
+use Rattle.std.proofs.Common.{◌≡◌, ℕ, zero, suc, ◌+◌, ◌<◌, ◌≤◌, ◌==◌, Bool, true, false, cond, List, [], ◌∷◌, ◌++◌, length, drop, get_or, slice_get, Option, Some, None, option_map, option_and_then, if◌then◌else◌, refl, sym, ap, ◌∙◌, subst, arith, ltb-true, append-nil, append_assoc, length-append}
 use Rattle.std.specs.Prelude.{is_some, nat_lt, IsSome}
-use Rattle.std.proofs.lemmas.List.{drop_all, drop_more}
+use Rattle.std.proofs.lemmas.List.{drop_all, drop_more, length-map}
 use Rattle.types.specs.declared.ids.ExprId.{ExprId}
 use Rattle.world.specs.declared.expr.RecordLitField.{RecordLitField}
 use Rattle.world.specs.declared.items.FieldRow.{FieldRow}
 use Rattle.world.specs.Nodes.{expr_numbers, field_numbers}
 use Rattle.mir.specs.declared.operand.Operand.{Operand}
-use Rattle.source_meaning.specs.Structs.{all_places, picked, place_named, places_named}
+use Rattle.source_meaning.specs.Structs.{all_places, picked, place_named, places_from, places_in_order, places_named}
 use Rattle.source_meaning.proofs.Structs.{picked-more, picked-none}
 use Rattle.body_forms.specs.Structs.{arranged}
 
@@ -158,3 +158,33 @@ the-value None some = absurd cc
 
 pub none-has-none : {A : Type 0} (given : Option A) → given ≡ None → IsSome given → ⊥
 none-has-none given none some = let never : false ≡ true = sym (ap is_some none) ∙ some in absurd cc
+
+-- the operands that are given in the order of the fields are at the places from the first on
+
+in-order-from : {A B : Type 0} (args : List A) (before operands : List B) → length operands ≡ length args → picked (places_from (length before) args) (before ++ operands) ≡ Some operands
+unfolding places_from
+in-order-from {B = B} [] before [] many = picked-none (before ++ [])
+in-order-from [] before (operand ∷ operands) many = absurd cc
+in-order-from (arg ∷ args) before [] many = absurd cc
+in-order-from {B = B} (arg ∷ args) before (operand ∷ operands) many =
+    picked-more (length before) (places_from (suc (length before)) args) (before ++ operand ∷ operands) operand operands (slice_get-middle before operand operands)
+    (subst (λ all. picked (places_from (suc (length before)) args) all ≡ Some operands) (append_assoc before (operand ∷ []) operands)
+    (subst (λ n. picked (places_from n args) ((before ++ operand ∷ []) ++ operands) ≡ Some operands) longer
+    (in-order-from args (before ++ operand ∷ []) operands (let rest : length operands ≡ length args = cc in rest))))
+  where
+    longer : length (before ++ operand ∷ []) ≡ suc (length before)
+    longer = omega (arith, length-append before (operand ∷ []))
+
+    slice_get-middle : (first : List B) (x : B) (xs : List B) → slice_get (first ++ x ∷ xs) (length first) ≡ Some x
+    slice_get-middle [] x xs = refl
+    slice_get-middle (y ∷ ys) x xs = slice_get-middle ys x xs
+
+pub are-in-order : (fields : List FieldRow) (args : List ExprId) (places : List ℕ) (operands : List Operand) → places_in_order fields args ≡ Some places → length operands ≡ length (expr_numbers args) → picked places operands ≡ Some operands
+are-in-order fields args places operands is many = by_test (length fields == length args) is
+  where
+    many-args : length operands ≡ length args
+    many-args = many ∙ length-map args (λ (id : ExprId). id.0)
+
+    by_test : (test : Bool) → if test then Some (places_from 0 args) else None ≡ Some places → picked places operands ≡ Some operands
+    by_test true same = let are : places_from 0 args ≡ places = cc in subst (λ ps. picked ps operands ≡ Some operands) are (in-order-from args [] operands many-args)
+    by_test false same = absurd cc

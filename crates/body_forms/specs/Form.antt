@@ -3,10 +3,11 @@ use Rattle.std.specs.Prelude.{◌≡◌, ℕ, ◌-◌, ◌^◌, false, List, [],
 use Rattle.source_meaning.specs.Core.{Assigned as CoreAssigned, Assignee as CoreAssignee, ByField, ByPath, ByPattern, ByPlace, CoreExpr, CoreLiteral, Findings, Truth, Number, Character, Operation, Negate, Invert, Keep, Convert, Combine, MakeTuple, MakeArray, Repeat, MakeStruct, PlaceElem, Part, FieldOf, ElementAt, core_of, is_place}
 use Rattle.source_meaning.specs.Core as expr
 use Rattle.source_meaning.specs.Source.{Source, node, unadjusted}
-use Rattle.source_meaning.specs.Structs.{FieldSource as CoreSource, StructAt as CoreStruct, Written, OfBase, all_places, all_sources}
+use Rattle.source_meaning.specs.Structs.{FieldSource as CoreSource, StructAt as CoreStruct, Written, OfBase, all_places, all_sources, places_in_order}
 use Rattle.types.specs.declared.ids.FieldId.{FieldId}
 use Rattle.world.specs.Nodes.{expr_numbers, field_numbers}
 use Rattle.world.specs.declared.expr.Expr.{Expr}
+use Rattle.world.specs.declared.items.FieldRow.{FieldRow}
 use Rattle.either.specs.declared.Either.TheVariants.{Left, Right}
 use Rattle.mir.specs.Elements.{PlaceElem as GraphElem}
 use Rattle.mir.specs.declared.projection.ProjectionElem.TheVariants.{Field}
@@ -26,8 +27,11 @@ use Rattle.body_forms.specs.declared.literal.LiteralValue.{LiteralValue}
 use Rattle.body_forms.specs.declared.literal.LiteralValue.TheVariants as literal
 use Rattle.body_forms.specs.declared.structs.FieldSource.{FieldSource}
 use Rattle.body_forms.specs.declared.structs.FieldSource.TheVariants as source
+use Rattle.body_forms.specs.declared.structs.FieldExprs.{FieldExprs}
+use Rattle.body_forms.specs.declared.structs.FieldExprs.TheVariants as given
 use Rattle.body_forms.specs.declared.structs.StructAt.{StructAt}
 use Rattle.body_forms.specs.declared.structs.StructLiteral.{StructLiteral}
+use Rattle.body_forms.specs.declared.structs.StructValue.{StructValue}
 use Rattle.body_forms.specs.Refusals.{IsIncomplete, LacksPart, IsUnbuiltForm}
 
 -- the literal that a value of the code is
@@ -44,7 +48,7 @@ operation_of one.Neg = Negate
 
 -- what may be found out of an expression whose form depends on nothing but itself
 abbrev pub no_findings : Findings
-no_findings = record { names_unit = false; names_item = false; casts = λ operand. None; field = λ base. None; element = λ base index. None; made = None; assignee = λ pat. ByPattern pat.0; assigned = λ e. ByPath e.0 }
+no_findings = record { names_unit = false; names_item = false; casts = λ operand. None; field = λ base. None; element = λ base index. None; made = None; constructed = λ callee. None; assignee = λ pat. ByPattern pat.0; assigned = λ e. ByPath e.0 }
 
 -- the step into a value that a step to a field or an element is
 abbrev pub core_elem : FieldStep → PlaceElem
@@ -64,9 +68,22 @@ field_elem field = Field (Left field)
 abbrev pub core_struct : StructAt → CoreStruct
 core_struct made = record { id = made.id; args = made.args.now; fields = made.fields.now }
 
--- the places of a literal's written fields, in the order of its struct's fields
-abbrev pub literal_places : StructLiteral → Option (List ℕ)
-literal_places literal = all_places literal.made.fields.now literal.written.now
+-- the expressions that give the fields of a struct, in the order in which they are evaluated
+abbrev pub exprs_given : FieldExprs → List ℕ
+exprs_given (given.Named written) = field_numbers written.now
+exprs_given (given.InOrder args) = expr_numbers args.now
+
+-- the places of these, in the order of the struct's fields, where there is one for each field, and no other
+abbrev pub places_in : List FieldRow → FieldExprs → Option (List ℕ)
+places_in fields (given.Named written) = all_places fields written.now
+places_in fields (given.InOrder args) = places_in_order fields args.now
+
+abbrev pub places_given : StructValue → Option (List ℕ)
+places_given value = places_in value.made.fields.now value.given
+
+-- the strict form that a struct is whose fields are given by expressions
+abbrev pub core_value_form : StructValue → Option CoreExpr
+core_value_form value = option_map (λ places. expr.Strict (MakeStruct value.made.id value.made.args.now places) (exprs_given value.given)) (places_given value)
 
 -- what gives a field of a struct literal with a base
 abbrev pub core_source : FieldSource → CoreSource
@@ -98,7 +115,7 @@ core_form (form.Cast e) = Some (expr.Strict Convert (e.0 ∷ []))
 core_form (form.Tuple parts) = Some (expr.Strict MakeTuple (expr_numbers parts.now))
 core_form (form.Array elements) = Some (expr.Strict MakeArray (expr_numbers elements.now))
 core_form (form.Repeat e) = Some (expr.Strict Repeat (e.0 ∷ []))
-core_form (form.Struct literal) = option_map (λ places. expr.Strict (MakeStruct literal.made.id literal.made.args.now places) (field_numbers literal.written.now)) (literal_places literal)
+core_form (form.Struct value) = core_value_form value
 core_form (form.Update literal base) = option_map (λ sources. expr.Update base.0 literal.made.id literal.made.args.now sources (field_numbers literal.written.now)) (literal_sources literal)
 core_form (form.Binary op lhs rhs) = Some (expr.Strict (Combine op) (lhs.0 ∷ rhs.0 ∷ []))
 core_form (form.Logic op lhs rhs) = Some (expr.Logic op lhs.0 rhs.0)
@@ -116,11 +133,11 @@ core_form (form.MethodCall receiver args) = Some (expr.Call None (receiver.0 ∷
 core_form form.Incomplete = None
 core_form form.Unbuilt = None
 
--- why an expression has no form with a meaning; a struct literal that has one gives all fields of its struct, or has a base that gives the others
+-- why an expression has no form with a meaning; a struct that has one is given all its fields, or has a base that gives the others
 abbrev pub IsCause : Expr → Form → Type 0
 IsCause e form.Incomplete = IsIncomplete e
 IsCause e form.Unbuilt = IsIncomplete e → ⊥
-IsCause e (form.Struct literal) = IsSome (literal_places literal)
+IsCause e (form.Struct value) = IsSome (places_given value)
 IsCause e (form.Update literal base) = IsSome (literal_sources literal)
 IsCause e _ = Unit {0}
 
@@ -133,7 +150,7 @@ pub record IsFormOf (found : Findings) (e : Expr) (f : Form) : Type 0 where
 abbrev pub IsCauseAt : Source → ℕ → Form → Type 0
 IsCauseAt source e form.Incomplete = LacksPart source e
 IsCauseAt source e form.Unbuilt = IsUnbuiltForm source e
-IsCauseAt source e (form.Struct literal) = IsSome (literal_places literal)
+IsCauseAt source e (form.Struct value) = IsSome (places_given value)
 IsCauseAt source e (form.Update literal base) = IsSome (literal_sources literal)
 IsCauseAt source e _ = Unit {0}
 

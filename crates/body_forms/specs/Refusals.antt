@@ -5,7 +5,7 @@ use Rattle.world.specs.Lookups.{expr_of, function_row}
 use Rattle.types.specs.declared.ids.FunctionId.{FunctionId}
 use Rattle.source_meaning.specs.Built.{HasArrayType, is_direct}
 use Rattle.source_meaning.specs.Calls.{function_called}
-use Rattle.source_meaning.specs.Core.{Assigned, Assignee, ByField, ByPath, ByPattern, ByPlace, CoreExpr, Number, Character, MakeArray, Repeat, core_of, is_adjusted_otherwise, is_place}
+use Rattle.source_meaning.specs.Core.{Assigned, Assignee, ByField, ByPath, ByPattern, ByPlace, CoreExpr, Number, Character, MakeArray, Repeat, core_of, is_place}
 use Rattle.source_meaning.specs.Core as expr
 use Rattle.source_meaning.specs.Core.{local_named}
 use Rattle.world.specs.declared.expr.Expr.{Expr}
@@ -19,7 +19,7 @@ use Rattle.world.specs.declared.layout.Layout.{Layout}
 use Rattle.mir.specs.declared.errors.MirLowerError.{MirLowerError}
 use Rattle.mir.specs.declared.errors.MirLowerError.TheVariants as refusal
 use Rattle.mir.specs.Errors.{layout_error_of}
-use Rattle.source_meaning.specs.Source.{Source, findings, node, unadjusted, named_by, pattern, target_path, pattern_named_by, target, compound_path, compound_target, binding_type, root, own_layout, own_type}
+use Rattle.source_meaning.specs.Source.{Source, findings, is_adjusted, node, unadjusted, named_by, pattern, target_path, pattern_named_by, target, compound_path, compound_target, binding_type, root, own_layout, own_type}
 use Rattle.source_meaning.specs.Around.{Opened, meant}
 use Rattle.source_meaning.specs.Valid.{EvaluatesIn}
 use Rattle.types.specs.declared.ids.ExprId.{ExprId}
@@ -37,11 +37,11 @@ IsIncomplete whole.Missing = Unit {0}
 IsIncomplete (whole.BinaryOp lhs rhs None) = Unit {0}
 IsIncomplete _ = ⊥
 
--- an expression that isn't adjusted, or by `NeverToAny` alone, is missing, or its operator is
+-- an expression that isn't adjusted, or by `NeverToAny` alone, or in a way that isn't looked at, is missing, or its operator is
 pub record LacksPart (source : Source) (e : ℕ) : Type 0 where
   pub expr : Expr
   pub stands : expr_of source.body e ≡ Some expr
-  pub plain : is_adjusted_otherwise source.infer (record { 0 = e }) ≡ false
+  pub plain : is_adjusted source e ≡ false
   pub lacks : IsIncomplete expr
 
 -- an expression of a form that has no meaning yet, and isn't incomplete
@@ -52,13 +52,14 @@ pub record IsUnbuiltExpr (source : Source) (e : ℕ) : Type 0 where
   pub complete : IsIncomplete expr → ⊥
 
 -- An expression of a form that isn't built yet, whatever its parts are: one that is adjusted otherwise than by `NeverToAny`
--- alone, whatever its form is, and one to which `core_of` gives no form, other than an incomplete one: `*`, a literal that is neither
+-- alone, whatever its form is, where that is looked at, as it isn't of the base of an index, and one to which `core_of` gives no form, other than an incomplete one: `*`, a literal that is neither
 -- a truth value nor a whole number nor a character, a cast from or to another type than an integer, `bool` or `char`, a path to an
 -- associated item or a variant, or to a struct that isn't its type, a field of a struct with generic arguments, of a variant or of a union, or one that isn't resolved, an index of another type than `usize` or of what is no array, a struct literal
 -- that isn't resolved to the struct that its type is, or doesn't give each field of it once; with a base, one that writes a field twice or writes
--- what is no field of it, or is of a struct with generic arguments; one with `..` and no base; a closure, a `match` and so on.
+-- what is no field of it, or is of a struct with generic arguments; one with `..` and no base; a call of a constructor with more or fewer arguments
+-- than its struct has fields, unless it is listed as one that doesn't return; a closure, a `match` and so on.
 abbrev pub IsUnbuiltForm : Source → ℕ → Type 0
-IsUnbuiltForm source e = (is_adjusted_otherwise source.infer (record { 0 = e }) ≡ true) ⊎ IsUnbuiltExpr source e
+IsUnbuiltForm source e = (is_adjusted source e ≡ true) ⊎ IsUnbuiltExpr source e
 
 -- a statement that isn't built yet: an item, and a `let` without an initializer, with `else`, or of more than a name
 abbrev pub IsUnbuiltStatement : Source → Statement → Type 0

@@ -1,5 +1,6 @@
 //! What lowering reads: a typed body in its world.
 
+ghost use Rattle.source_meaning.specs.Source.{index_bases};
 ghost use Rattle.body_forms.specs.Copies.{HasCopyTypes};
 ghost use Rattle.body_forms.specs.Listed.{HasListed};
 
@@ -20,7 +21,10 @@ pub struct Context<'a> {
     pub diverging: BTreeSet<ExprId>,
     /// The operands of casts that `infer` lists as coercions.
     pub coercions: BTreeSet<ExprId>,
+    /// The bases of the index expressions of `body`.
+    pub bases: BTreeSet<ExprId>,
     ghost copies: { HasCopyTypes infer.now copy_types },
     ghost calls: { HasListed infer.now.diverging diverging },
     ghost casts: { HasListed infer.now.coercion_casts coercions },
+    ghost indexed: { HasListed (index_bases body.now.exprs) bases },
 }

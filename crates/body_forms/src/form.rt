@@ -5,11 +5,11 @@ ghost use Rattle.std.specs.Option.{option_and_then, option_copied, option_map};
 ghost use Rattle.source_meaning.specs.Core.{are_many, are_other_steps, cast_operation, element_taken, expr_in, field_taken, is_adjusted_otherwise, is_adjusted_twice, is_adjusted_pattern, is_by_reference, is_dereferenced_pattern, is_positive, is_literal, name_of, named_path, names_item, part_in, path_of, pattern_names_item, step_to, update_form, value_type as type_of_value};
 ghost use Rattle.types.specs.declared.ids.VariantId.TheVariants as variant;
 ghost use Rattle.source_meaning.specs.Core as expr;
-ghost use Rattle.source_meaning.specs.Source.{assigned, assigned_by, assignee, compound_path, findings, pattern, pattern_expr, target_path, unadjusted};
+ghost use Rattle.source_meaning.specs.Source.{assigned, assigned_by, assignee, compound_path, findings, is_adjusted, pattern, pattern_expr, target_path, unadjusted};
 ghost use Rattle.world.specs.declared.expr.Expr.TheVariants as whole;
 ghost use Rattle.world.specs.Lookups.{expr_of};
 ghost use Rattle.body_forms.specs.Contexts.{source_of};
-ghost use Rattle.body_forms.specs.Form.{IsCause, IsFormOf, IsPlaceForm, HasForm, core_assigned, core_assignee, core_elem, core_form, core_struct, core_value, no_findings, part_elem};
+ghost use Rattle.body_forms.specs.Form.{IsCause, IsFormOf, IsPlaceForm, HasForm, core_assigned, core_assignee, core_elem, core_form, core_struct, core_value, core_value_form, no_findings, part_elem};
 ghost use Rattle.body_forms.specs.Refusals.{IsIncomplete};
 ghost use Rattle.world.specs.declared.expr.Expr.{Expr};
 
@@ -17,8 +17,8 @@ use crate::context::Context;
 use crate::inferred::{diverges, is_coercion, is_conversion, step_target, value_type};
 use crate::literal::LiteralValue;
 use crate::structs::{
-    StructAt, StructLiteral, gives_all_fields, gives_known_fields, names_unit, struct_args,
-    struct_made,
+    FieldExprs, StructAt, StructLiteral, StructValue, constructed, gives_all_fields,
+    gives_known_fields, names_unit, struct_args, struct_made,
 };
 use either::Either;
 use mir::{BinOp, PlaceElem, UnOp};
@@ -75,8 +75,8 @@ pub enum Form<'a> {
     Array(&'a List<ExprId>),
     /// An array of one value as often as its type says.
     Repeat(ExprId),
-    /// A struct literal without a base, which gives each field of its struct.
-    Struct(StructLiteral<'a>),
+    /// A struct literal without a base, or a call of a constructor, which gives each field of its struct.
+    Struct(StructValue<'a>),
     /// A struct literal with this base, which writes fields of its struct.
     Update(StructLiteral<'a>, ExprId),
     Binary(BinOp, ExprId, ExprId),
@@ -260,6 +260,31 @@ fn update_form<'a>(base: ExprId, literal: StructLiteral<'a>) -> Form<'a>
     }
 }
 
+/// The form of a struct whose fields are given by expressions.
+fn struct_form<'a>(value: StructValue<'a>) -> Form<'a>
+    ensures core { core_form result ≡ core_value_form value.entry }
+    ensures cause { (e : Expr) → (IsIncomplete e → ⊥) → IsCause e result }
+{
+    if gives_all_fields(value) {
+        Form::Struct(value)
+    } else {
+        Form::Unbuilt
+    }
+}
+
+/// The form of a call, by the struct whose constructor its callee is, if it is one: any other callee is a function.
+fn call_form<'a>(made: Option<StructAt<'a>>, callee: ExprId, args: &'a List<ExprId>) -> Form<'a>
+    ensures { IsFormOf (record no_findings { constructed = λ from. option_map core_struct made.entry }) (whole.Call callee args.now) result }
+{
+    match made {
+        Some(made) => struct_form(StructValue {
+            made,
+            given: FieldExprs::InOrder(args),
+        }),
+        None => Form::Call(callee, args),
+    }
+}
+
 /// The form of a struct literal, by the struct that it makes a value of.
 fn record_form<'a>(
     made: Option<StructAt<'a>>,
@@ -269,14 +294,10 @@ fn record_form<'a>(
     ensures { (path : Option (List ℕ)) → IsFormOf (record no_findings { made = option_map core_struct made.entry }) (whole.RecordLit path written.now base.now) result }
 {
     match (made, base) {
-        (Some(made), RecordSpread::None) => {
-            let literal = StructLiteral { made, written };
-            if gives_all_fields(literal) {
-                Form::Struct(literal)
-            } else {
-                Form::Unbuilt
-            }
-        }
+        (Some(made), RecordSpread::None) => struct_form(StructValue {
+            made,
+            given: FieldExprs::Named(written),
+        }),
         (Some(made), RecordSpread::Expr(base)) => update_form(
             *base,
             StructLiteral { made, written },
@@ -312,7 +333,7 @@ fn form_of<'a>(context: &Context<'a>, e: ExprId, expr: &'a Expr) -> Form<'a>
         Expr::Break { expr, label } => Form::Break(*label, *expr),
         Expr::Continue { label } => Form::Continue(*label),
         Expr::Return { expr } => Form::Return(*expr),
-        Expr::Call { callee, args } => Form::Call(*callee, args),
+        Expr::Call { callee, args } => call_form(constructed(context, e, *callee), *callee, args),
         Expr::MethodCall { receiver, args, .. } => Form::MethodCall(*receiver, args),
         Expr::Tuple { exprs } => Form::Tuple(exprs),
         Expr::Array { elements } => Form::Array(elements),
@@ -339,12 +360,16 @@ fn are_other_steps(steps: Option<&List<Adjustment>>) -> bool
     }
 }
 
-/// Whether an expression's value is adjusted before it is used, in another way than by `NeverToAny` alone.
-#[tactic(auto, unfolding(source_meaning::specs::Core::is_adjusted_otherwise))]
-fn is_adjusted_otherwise(context: &Context<'_>, e: ExprId) -> bool
-    ensures { result ≡ is_adjusted_otherwise context.now.infer.now e }
+/// Whether an expression's value is adjusted before it is used, in another way than by `NeverToAny` alone, and that is looked at: one adjustment of the
+/// base of an index isn't.
+#[tactic(auto, unfolding(source_meaning::specs::Core::is_adjusted_otherwise, source_meaning::specs::Source::is_adjusted))]
+fn is_adjusted(context: &Context<'_>, e: ExprId) -> bool
+    ensures { result ≡ is_adjusted (source_of context.now) e.0 }
 {
     are_other_steps(context.infer.expr_adjustments.get(&e))
+        && !(context.bases.contains(&e)
+            && e.0 != context.body.body_expr.0
+            && !is_adjusted_twice(context, e))
 }
 
 /// Whether a path is resolved to an associated item or a variant.
@@ -368,7 +393,7 @@ pub fn form_at<'a>(context: &Context<'a>, e: ExprId) -> Form<'a>
     requires { e.0 < length context.now.body.now.exprs }
     ensures { HasForm (source_of context.now) e.0 result }
 {
-    if is_adjusted_otherwise(context, e) {
+    if is_adjusted(context, e) {
         Form::Unbuilt
     } else {
         form_of(context, e, expr_at(context, e))
@@ -439,16 +464,6 @@ fn is_adjusted_pattern(context: &Context<'_>, pat: PatId) -> bool
         || is_positive(context.infer.pat_adjustments.get(&pat))
 }
 
-/// The binding of a pattern that is a name and no more.
-fn name_of(pat: Option<&Pat>) -> Option<BindingId>
-    ensures { result ≡ option_and_then name_of (option_copied pat.entry) }
-{
-    match pat {
-        Some(Pat::Bind { id, subpat: None }) => Some(*id),
-        _ => None,
-    }
-}
-
 /// The binding that a pattern of the body binds, where it is a name that binds by value.
 #[tactic(auto, unfolding(source_meaning::specs::Source::pattern))]
 pub fn name_bound(context: &Context<'_>, pat: PatId) -> Option<BindingId>
@@ -457,7 +472,10 @@ pub fn name_bound(context: &Context<'_>, pat: PatId) -> Option<BindingId>
     if is_adjusted_pattern(context, pat) {
         None
     } else {
-        name_of(context.body.pats.get(pat.0 as u64))
+        match context.body.pats.get(pat.0 as u64) {
+            Some(Pat::Bind { id, subpat: None }) => Some(*id),
+            _ => None,
+        }
     }
 }
 
@@ -469,16 +487,6 @@ fn is_dereferenced_pattern(context: &Context<'_>, pat: PatId) -> bool
     is_positive(context.infer.pat_adjustments.get(&pat))
 }
 
-/// The expression that a pattern holds as the target of an assignment.
-fn expr_in(pat: Option<&Pat>) -> Option<ExprId>
-    ensures { result ≡ option_and_then expr_in (option_copied pat.entry) }
-{
-    match pat {
-        Some(Pat::Expr(e)) => Some(*e),
-        _ => None,
-    }
-}
-
 /// The expression that a pattern holds as the target of an assignment, where it isn't dereferenced.
 #[tactic(auto, unfolding(source_meaning::specs::Source::pattern_expr))]
 fn pattern_expr(context: &Context<'_>, pat: PatId) -> Option<ExprId>
@@ -487,7 +495,10 @@ fn pattern_expr(context: &Context<'_>, pat: PatId) -> Option<ExprId>
     if is_dereferenced_pattern(context, pat) {
         None
     } else {
-        expr_in(context.body.pats.get(pat.0 as u64))
+        match context.body.pats.get(pat.0 as u64) {
+            Some(Pat::Expr(e)) => Some(*e),
+            _ => None,
+        }
     }
 }
 
@@ -510,16 +521,6 @@ fn pattern_names_item(context: &Context<'_>, pat: PatId) -> bool
         || context.infer.pat_variant_res.get(&pat).is_some()
 }
 
-/// The text of a pattern that is a path.
-fn path_of(pat: Option<&Pat>) -> Option<&Text>
-    ensures { option_copied result ≡ option_and_then path_of (option_copied pat.entry) }
-{
-    match pat {
-        Some(Pat::Path(name)) => Some(name),
-        _ => None,
-    }
-}
-
 /// The path that the target of an assignment is, where it is one that may name a binding.
 #[tactic(auto, unfolding(source_meaning::specs::Source::target_path))]
 pub fn target_path<'a>(context: &Context<'a>, pat: PatId) -> Option<&'a Text>
@@ -528,7 +529,10 @@ pub fn target_path<'a>(context: &Context<'a>, pat: PatId) -> Option<&'a Text>
     if is_dereferenced_pattern(context, pat) || pattern_names_item(context, pat) {
         None
     } else {
-        path_of(context.body.pats.get(pat.0 as u64))
+        match context.body.pats.get(pat.0 as u64) {
+            Some(Pat::Path(name)) => Some(name),
+            _ => None,
+        }
     }
 }
 
@@ -582,16 +586,6 @@ fn assigned_of(context: &Context<'_>, e: ExprId) -> Assigned
     }
 }
 
-/// The text of an expression that is a path.
-fn named_path(expr: Option<&Expr>) -> Option<&Text>
-    ensures { option_copied result ≡ option_and_then named_path (option_copied expr.entry) }
-{
-    match expr {
-        Some(Expr::Path(name)) => Some(name),
-        _ => None,
-    }
-}
-
 /// The path that the target of a compound assignment is, where it is one that may name a binding.
 #[tactic(auto, unfolding(source_meaning::specs::Source::compound_path))]
 pub fn compound_path<'a>(context: &Context<'a>, e: ExprId) -> Option<&'a Text>
@@ -600,6 +594,9 @@ pub fn compound_path<'a>(context: &Context<'a>, e: ExprId) -> Option<&'a Text>
     if is_adjusted_twice(context, e) || names_item(context, e) {
         None
     } else {
-        named_path(context.body.exprs.get(e.0 as u64))
+        match context.body.exprs.get(e.0 as u64) {
+            Some(Expr::Path(name)) => Some(name),
+            _ => None,
+        }
     }
 }

@@ -5,7 +5,7 @@ ghost use Rattle.std.specs.Prelude.{◌≡◌, ◌<◌, ◌&&◌, ℕ, length, S
 ghost use Rattle.std.specs.Option.{option_copied};
 ghost use Rattle.source_meaning.specs.Built.{HasArrayType};
 ghost use Rattle.source_meaning.specs.Core.{is_coercion, is_number_type, never_step, never_steps, never_target, value_type as type_of_value};
-ghost use Rattle.source_meaning.specs.Source.{binding_type, cell_type, diverges, monomorphic, node_type, own_type, Never};
+ghost use Rattle.source_meaning.specs.Source.{binding_type, cell_type, diverges, index_bases, monomorphic, node_type, own_type, Never};
 ghost use Rattle.types.specs.declared.ty.Ty.TheVariants.{Array};
 ghost use Rattle.world.specs.Checked.{IsCheckedBody};
 ghost use Rattle.world.specs.Lookups.{is_copy as is_copy_type, type_of};
@@ -18,7 +18,7 @@ use numbers::Kind;
 use std::alloc::Global;
 use std::collections::BTreeSet;
 use world::{
-    Adjust, Adjustment, Body, Const, ExprId, HirDatabase, InferenceResult, List, NoMemory,
+    Adjust, Adjustment, Body, Const, Expr, ExprId, HirDatabase, InferenceResult, List, NoMemory,
     TryClone, Ty,
 };
 
@@ -32,25 +32,15 @@ pub(crate) fn step_target(step: &Adjustment) -> Option<&Ty>
     }
 }
 
-/// The type that adjustments lead to, where they are `NeverToAny` alone.
-fn steps_target(steps: Option<&List<Adjustment>>) -> Option<&Ty>
-    ensures { option_copied result ≡ never_steps (option_copied steps.entry) }
-{
-    match steps {
-        Some(steps) => match steps.as_slice() {
-            [step] => step_target(step),
-            _ => None,
-        },
-        None => None,
-    }
-}
-
 /// The type that an expression's value is adjusted to, where `NeverToAny` is its only adjustment.
 #[tactic(auto, unfolding(source_meaning::specs::Core::never_target))]
 fn never_target<'a>(context: &Context<'a>, e: ExprId) -> Option<&'a Ty>
     ensures { option_copied result ≡ never_target context.now.infer.now e }
 {
-    steps_target(context.infer.expr_adjustments.get(&e))
+    match context.infer.expr_adjustments.get(&e)?.as_slice() {
+        [step] => step_target(step),
+        _ => None,
+    }
 }
 
 /// Whether an expression's value is adjusted by `NeverToAny`.
@@ -191,9 +181,23 @@ fn as_set(alloc: Global, listed: &[ExprId]) -> Result<BTreeSet<ExprId>, NoMemory
     Ok(found)
 }
 
+/// The bases of the index expressions among expressions.
+#[tactic(auto, unfolding(source_meaning::specs::Source::index_bases))]
+fn index_bases(alloc: Global, exprs: &[Expr]) -> Result<List<ExprId>, NoMemory>
+    ensures { IfOk result (λ bases. bases ≡ index_bases exprs.now) }
+{
+    let mut bases = List::new(alloc);
+    for expr in exprs {
+        if let Expr::Index { base, .. } = expr {
+            bases.push(*base)?;
+        }
+    }
+    Ok(bases)
+}
+
 impl<'a> Context<'a> {
     /// A typed body in its world. The only refusal is want of memory for the types that are listed as `Copy`, the calls that are
-    /// listed as diverging, and the operands of casts that are listed as coercions.
+    /// listed as diverging, the operands of casts that are listed as coercions, and the bases of index expressions.
     pub fn new(
         alloc: Global,
         db: &'a HirDatabase,
@@ -202,6 +206,7 @@ impl<'a> Context<'a> {
     ) -> Result<Context<'a>, NoMemory>
         ensures { IfOk result (λ context. source_of context ≡ monomorphic db.now body.now infer.now) }
     {
+        let bases = index_bases(alloc, body.exprs.as_slice())?;
         Ok(Context {
             alloc,
             db,
@@ -210,6 +215,7 @@ impl<'a> Context<'a> {
             copy_types: copy_types(alloc, infer)?,
             diverging: as_set(alloc, infer.diverging.as_slice())?,
             coercions: as_set(alloc, infer.coercion_casts.as_slice())?,
+            bases: as_set(alloc, bases.as_slice())?,
         })
     }
 }

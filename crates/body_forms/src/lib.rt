@@ -23,6 +23,7 @@ pub use inferred::{
 pub use literal::{LiteralValue, lower_literal};
 pub use operation::{Several, Single, copied, deciding, kind_of, made_of};
 pub use structs::{
-    FieldSource, StructAt, StructLiteral, field_sources, struct_value, written_exprs,
+    FieldExprs, FieldSource, StructAt, StructLiteral, StructValue, field_sources, given_exprs,
+    struct_value, written_exprs,
 };
 pub use unbuilt::{form_not_built, type_error};

@@ -1,27 +1,28 @@
-//! Expressions that make values of structs: struct literals, with what gives each field of their struct, a written field or the base, and paths to
-//! unit structs.
+//! Expressions that make values of structs: struct literals and calls of constructors, with what gives each field of their struct, a written field, an
+//! argument or a base, and paths to unit structs.
 
 ghost use Rattle.std.specs.Prelude.{◌≡◌, ◌&&◌, ◌==◌, ℕ, List, count_by, length, map, is_some, IfOk, IsSome, Some};
 ghost use Rattle.std.specs.Option.{option_and_then, option_copied, option_map};
-ghost use Rattle.source_meaning.specs.Source.{Source, named_by, variant_named};
+ghost use Rattle.source_meaning.specs.Source.{Source, constructed, named_by, variant_named};
 ghost use Rattle.source_meaning.specs.Core as expr;
-ghost use Rattle.source_meaning.specs.Core.{names_unit, struct_named};
-ghost use Rattle.source_meaning.specs.Structs.{all_places, all_sources, field_sources, place_named, places_named, source_by, struct_args, struct_made, struct_of};
+ghost use Rattle.source_meaning.specs.Core.{are_any, names_unit, struct_named};
+ghost use Rattle.source_meaning.specs.Structs.{all_places, all_sources, field_sources, place_named, picked, places_named, source_by, struct_args, struct_made, struct_of, struct_with};
 ghost use Rattle.types.specs.declared.ids.VariantId.TheVariants as variant;
 ghost use Rattle.world.specs.Lookups.{type_of};
 ghost use Rattle.world.specs.Nodes.{expr_numbers, field_numbers};
 ghost use Rattle.body_forms.specs.Contexts.{source_of};
-ghost use Rattle.body_forms.specs.Form.{core_source, core_struct};
+ghost use Rattle.body_forms.specs.Form.{core_source, core_struct, exprs_given, places_given};
 ghost use Rattle.body_forms.specs.Operations.{IsRvalueOf};
 ghost use Rattle.body_forms.specs.Structs.{arranged};
 
+use crate::call::must_not_return;
 use crate::context::Context;
 use crate::inferred::own_type;
 use mir::{AggregateKind, Operand, Rvalue};
 use std::alloc::Global;
 use world::{
-    AdtId, ExprId, FieldId, FieldRow, GenericArgs, List, NoMemory, RecordLitField, StructId, Text,
-    TryClone, Ty, ValueNs, VariantId,
+    Adjustment, AdtId, CallableDefId, Expr, ExprId, FieldId, FieldRow, GenericArgs, List, NoMemory,
+    RecordLitField, StructId, Text, TryClone, Ty, ValueNs, VariantId,
 };
 
 /// A struct at generic arguments, with the rows of its fields.
@@ -37,6 +38,22 @@ pub struct StructAt<'a> {
 pub struct StructLiteral<'a> {
     pub made: StructAt<'a>,
     pub written: &'a List<RecordLitField>,
+}
+
+/// The expressions that give the fields of a struct.
+#[derive(Clone, Copy)]
+pub enum FieldExprs<'a> {
+    /// Those of the fields that a literal writes, each of which names its field.
+    Named(&'a List<RecordLitField>),
+    /// The arguments of the struct's constructor, in the order of the fields.
+    InOrder(&'a List<ExprId>),
+}
+
+/// A struct whose fields are given by expressions.
+#[derive(Clone, Copy)]
+pub struct StructValue<'a> {
+    pub made: StructAt<'a>,
+    pub given: FieldExprs<'a>,
 }
 
 /// What gives a field of a struct literal with a base: the written field at a place, or a field of the base.
@@ -56,11 +73,14 @@ pub(crate) fn struct_args(id: StructId, ty: &Ty) -> Option<&GenericArgs>
     }
 }
 
-/// A struct with its fields, at the generic arguments of a type, where this is the struct.
-fn struct_with<'a>(context: &Context<'a>, id: StructId, ty: Option<&'a Ty>) -> Option<StructAt<'a>>
-    ensures { option_map core_struct result ≡ struct_made context.now.db.now (Some (variant.StructId id)) (option_copied ty.entry) }
+/// A struct with its fields, at generic arguments.
+fn struct_with<'a>(
+    context: &Context<'a>,
+    id: StructId,
+    args: &'a GenericArgs,
+) -> Option<StructAt<'a>>
+    ensures { option_map core_struct result ≡ struct_with context.now.db.now id args.now }
 {
-    let args = struct_args(id, ty?)?;
     let fields = context.db.field_types(VariantId::StructId(id))?;
     Some(StructAt { id, args, fields })
 }
@@ -71,23 +91,49 @@ pub(crate) fn struct_made<'a>(context: &Context<'a>, e: ExprId) -> Option<Struct
     ensures { option_map core_struct result ≡ struct_made context.now.db.now (variant_named (source_of context.now) e.0) (type_of context.now.infer.now e.0) }
 {
     match context.infer.variant_res.get(&e) {
-        Some(VariantId::StructId(id)) => struct_with(context, *id, own_type(context, e)),
+        Some(VariantId::StructId(id)) => {
+            struct_with(context, *id, struct_args(*id, own_type(context, e)?)?)
+        }
         _ => None,
     }
 }
 
-/// The struct that an expression's own type is, if it is one.
-#[tactic(auto, unfolding(source_meaning::specs::Source::own_type))]
-fn own_struct(context: &Context<'_>, e: ExprId) -> Option<StructId>
-    ensures { result ≡ option_and_then struct_of (type_of context.now.infer.now e.0) }
+/// Whether there are adjustments.
+fn are_any(steps: Option<&List<Adjustment>>) -> bool
+    ensures { result ≡ are_any (option_copied steps.entry) }
 {
-    match own_type(context, e) {
-        Some(Ty::Adt(AdtId::StructId(id), _)) => Some(*id),
+    match steps {
+        Some(steps) => !steps.as_slice().is_empty(),
+        None => false,
+    }
+}
+
+/// The struct that a call makes of its arguments, where its callee is a path of the type of a constructor, and isn't adjusted, and the call isn't listed as
+/// one that doesn't return.
+#[tactic(auto, unfolding(source_meaning::specs::Calls::must_not_return, source_meaning::specs::Source::constructor_at, source_meaning::specs::Source::own_type))]
+pub(crate) fn constructed<'a>(
+    context: &Context<'a>,
+    call: ExprId,
+    callee: ExprId,
+) -> Option<StructAt<'a>>
+    ensures { option_map core_struct result ≡ constructed (source_of context.now) call.0 callee }
+{
+    if must_not_return(context, call) || are_any(context.infer.expr_adjustments.get(&callee)) {
+        return None;
+    }
+    match (
+        context.body.exprs.get(callee.0 as u64)?,
+        own_type(context, callee)?,
+    ) {
+        (Expr::Path(_), Ty::FnDef(CallableDefId::StructId(id), args)) => {
+            struct_with(context, *id, args)
+        }
         _ => None,
     }
 }
 
 /// The struct that a path is resolved to, where it is: by inference, or else by its name; `Self` is the struct that the path's own type is.
+#[tactic(auto, unfolding(source_meaning::specs::Source::own_type))]
 fn struct_named(context: &Context<'_>, e: ExprId) -> Option<StructId>
     ensures { result ≡ struct_named (option_and_then struct_of (type_of context.now.infer.now e.0)) (variant_named (source_of context.now) e.0) (named_by (source_of context.now) e.0) }
 {
@@ -96,25 +142,17 @@ fn struct_named(context: &Context<'_>, e: ExprId) -> Option<StructId>
         Some(_) => None,
         None => match context.infer.value_res.get(&e) {
             Some(ValueNs::StructId(id)) => Some(*id),
-            Some(ValueNs::ImplSelf) => own_struct(context, e),
+            Some(ValueNs::ImplSelf) => match own_type(context, e) {
+                Some(Ty::Adt(AdtId::StructId(id), _)) => Some(*id),
+                _ => None,
+            },
             _ => None,
         },
     }
 }
 
-/// Whether an expression's own type is the given struct.
-#[tactic(auto, unfolding(source_meaning::specs::Source::own_type))]
-fn is_of_struct(context: &Context<'_>, e: ExprId, id: StructId) -> bool
-    ensures { result ≡ is_some (option_and_then (struct_args id) (type_of context.now.infer.now e.0)) }
-{
-    match own_type(context, e) {
-        Some(ty) => struct_args(id, ty).is_some(),
-        None => false,
-    }
-}
-
 /// Whether a path is resolved to a struct, which is its own type: then it is a value of a unit struct.
-#[tactic(auto, unfolding(source_meaning::specs::Core::names_unit))]
+#[tactic(auto, unfolding(source_meaning::specs::Core::names_unit, source_meaning::specs::Source::own_type))]
 pub(crate) fn names_unit(context: &Context<'_>, e: ExprId) -> bool
     ensures { result ≡ names_unit context.now.infer.now e }
 {
@@ -122,7 +160,10 @@ pub(crate) fn names_unit(context: &Context<'_>, e: ExprId) -> bool
         return false;
     }
     match struct_named(context, e) {
-        Some(id) => is_of_struct(context, e, id),
+        Some(id) => match own_type(context, e) {
+            Some(ty) => struct_args(id, ty).is_some(),
+            None => false,
+        },
         None => false,
     }
 }
@@ -147,12 +188,17 @@ fn are_written(fields: &[FieldRow], written: &[RecordLitField]) -> bool
     true
 }
 
-/// Whether a literal gives each field of its struct once, and no other.
-pub(crate) fn gives_all_fields(literal: StructLiteral<'_>) -> bool
-    ensures { result ≡ is_some (all_places literal.entry.made.fields.now literal.entry.written.now) }
+/// Whether each field of a struct is given by one expression, and no expression gives another.
+pub(crate) fn gives_all_fields(value: StructValue<'_>) -> bool
+    ensures { result ≡ is_some (places_given value.entry) }
 {
-    literal.made.fields.len() == literal.written.len()
-        && are_written(literal.made.fields.as_slice(), literal.written.as_slice())
+    match value.given {
+        FieldExprs::Named(written) => {
+            value.made.fields.len() == written.len()
+                && are_written(value.made.fields.as_slice(), written.as_slice())
+        }
+        FieldExprs::InOrder(args) => value.made.fields.len() == args.len(),
+    }
 }
 
 /// How many fields of a struct are written.
@@ -218,6 +264,16 @@ pub fn written_exprs(alloc: Global, written: &[RecordLitField]) -> Result<List<E
     Ok(exprs)
 }
 
+/// The expressions that give the fields of a struct, in the order in which they are evaluated.
+pub fn given_exprs(alloc: Global, given: FieldExprs<'_>) -> Result<List<ExprId>, NoMemory>
+    ensures { IfOk result (λ exprs. expr_numbers exprs ≡ exprs_given given.entry) }
+{
+    match given {
+        FieldExprs::Named(written) => written_exprs(alloc, written.as_slice()),
+        FieldExprs::InOrder(args) => args.try_clone(alloc),
+    }
+}
+
 /// The operands of written fields, in the order of the fields of the struct.
 fn arranged(
     alloc: Global,
@@ -242,24 +298,40 @@ fn arranged(
     Ok(all)
 }
 
-/// The struct that a literal makes of the operands of its written fields.
+/// The operands of the expressions that give the fields of a struct, in the order of the fields.
+fn in_field_order(
+    alloc: Global,
+    value: StructValue<'_>,
+    operands: List<Operand>,
+) -> Result<List<Operand>, NoMemory>
+    requires given { IsSome (places_given value) }
+    requires many { length operands ≡ length (exprs_given value.given) }
+    ensures { IfOk result (λ all. (places : List ℕ) → places_given value.entry ≡ Some places → picked places operands ≡ Some all) }
+{
+    match value.given {
+        FieldExprs::Named(written) => arranged(
+            alloc,
+            value.made.fields.as_slice(),
+            written.as_slice(),
+            &operands,
+        ),
+        FieldExprs::InOrder(_) => Ok(operands),
+    }
+}
+
+/// The struct that is made of the operands of the expressions that give its fields.
 pub fn struct_value(
     alloc: Global,
-    literal: StructLiteral<'_>,
-    operands: &List<Operand>,
+    value: StructValue<'_>,
+    operands: List<Operand>,
 ) -> Result<Rvalue, NoMemory>
-    requires given { IsSome (all_places literal.made.fields.now literal.written.now) }
-    requires many { length operands.now ≡ length literal.written.now }
-    ensures { IfOk result (λ made. (source : Source) (e : ℕ) (places : List ℕ) → all_places literal.entry.made.fields.now literal.entry.written.now ≡ Some places
-        → IsRvalueOf source e (expr.MakeStruct literal.entry.made.id literal.entry.made.args.now places) operands.now made) }
+    requires given { IsSome (places_given value) }
+    requires many { length operands ≡ length (exprs_given value.given) }
+    ensures { IfOk result (λ made. (source : Source) (e : ℕ) (places : List ℕ) → places_given value.entry ≡ Some places
+        → IsRvalueOf source e (expr.MakeStruct value.entry.made.id value.entry.made.args.now places) operands made) }
 {
-    let made = literal.made;
-    let all = arranged(
-        alloc,
-        made.fields.as_slice(),
-        literal.written.as_slice(),
-        operands,
-    )?;
+    let made = value.made;
+    let all = in_field_order(alloc, value, operands)?;
     let args = made.args.try_clone(alloc)?;
     Ok(Rvalue::Aggregate(AggregateKind::Adt(VariantId::StructId(made.id), args), all))
 }

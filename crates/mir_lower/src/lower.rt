@@ -12,7 +12,7 @@ ghost use Rattle.source_meaning.specs.Steps.{assigned_parts, assignee_parts, fie
 ghost use Rattle.world.specs.declared.body.Statement.TheVariants as statement_kind;
 ghost use Rattle.body_forms.specs.Callees.{callee_number};
 ghost use Rattle.body_forms.specs.Contexts.{source_of};
-ghost use Rattle.body_forms.specs.Form.{core_assigned, core_assignee, core_elem, core_form, literal_places, literal_sources};
+ghost use Rattle.body_forms.specs.Form.{core_assigned, core_assignee, core_elem, core_form, literal_sources, places_given};
 ghost use Rattle.body_forms.specs.declared.form.Form.TheVariants.{Struct, Update};
 ghost use Rattle.mir_graph.specs.Graph.{shape, local_of};
 ghost use Rattle.mir_lower.specs.Growth.{HasIndex, IsPlaced, IsReady, ArePartsReady, IsReadyPart};
@@ -35,9 +35,9 @@ use crate::simple::{literal_into, lower_continue, name_into, names_place};
 use crate::update::field_operands;
 use body_forms::{
     Assigned, Assignee, Context, FieldStep, Form, PlaceForm, Several, Single, StructLiteral,
-    copied, deciding, diverges, field_sources, form_at, form_not_built, kind_of, literal_at,
-    lower_callee, lower_literal, made_of, method_args, part_elem, place_form_at, struct_value,
-    written_exprs,
+    StructValue, copied, deciding, diverges, field_sources, form_at, form_not_built, given_exprs,
+    kind_of, literal_at, lower_callee, lower_literal, made_of, method_args, part_elem,
+    place_form_at, struct_value, written_exprs,
 };
 use either::Either;
 use mir::{
@@ -227,7 +227,7 @@ fn lower_own(
         Form::Array(elements) => {
             lower_aggregate(context, graph, e, Several::Array, elements.as_slice(), to)
         }
-        Form::Struct(literal) => lower_struct(context, graph, e, literal, to),
+        Form::Struct(value) => lower_struct(context, graph, e, value, to),
         Form::Update(literal, base) => lower_update(context, graph, e, literal, base, to),
         Form::Binary(op, lhs, rhs) => lower_binary(context, graph, e, op, lhs, rhs, to),
         Form::Logic(op, lhs, rhs) => lower_logic(context, graph, e, op, lhs, rhs, to),
@@ -304,26 +304,26 @@ fn lower_aggregate(
     )
 }
 
-/// A struct: the operands of its fields in the order in which they are written, and then the struct of all.
+/// A struct: the operands of its fields in the order in which they are written or passed to its constructor, and then the struct of all.
 #[cycle(lower)]
 fn lower_struct(
     context: &Context<'_>,
     graph: &mut Graph,
     e: ExprId,
-    literal: StructLiteral<'_>,
+    value: StructValue<'_>,
     to: LocalId,
 ) -> Result<(), MirLowerError>
     requires ready { IsReady (source_of context.now) (shape graph.old) e.0 }
-    requires form { node (source_of context.now) e.0 ≡ core_form (Struct literal) }
-    requires given { IsSome (literal_places literal) }
+    requires form { node (source_of context.now) e.0 ≡ core_form (Struct value) }
+    requires given { IsSome (places_given value) }
     ensures lowered { OnOk result ((cell : Cell) → local_of (shape graph.old) cell ≡ Some to.0
         → LowersOwn (source_of context.now) (shape graph.old) (shape graph.new) e.0 cell) }
     ensures built { OnOk result (IsBuilt (source_of context.now) e.0) }
     ensures refused { IfErr result (RefusesAt (source_of context.now) e.0) }
 {
-    let parts = written_exprs(context.alloc, literal.written.as_slice())?;
+    let parts = given_exprs(context.alloc, value.given)?;
     let operands = lower_operands(context, graph, e, parts.as_slice())?;
-    let made = struct_value(context.alloc, literal, &operands)?;
+    let made = struct_value(context.alloc, value, operands)?;
     assign(graph, to, made, MirSpan::ExprId(e))
 }
 

@@ -27,10 +27,10 @@ use Rattle.world.specs.declared.infer.InferenceResult.{InferenceResult}
 use Rattle.types.specs.declared.operators.BinaryOp.{BinaryOp}
 use Rattle.types.specs.declared.operators.BinaryOp.TheVariants as binary
 use Rattle.numbers.specs.Operators.{of_arith, of_compare}
-use Rattle.source_meaning.specs.Core.{CoreExpr, Findings, are_none, Operation, MakeTuple, MakeArray, Repeat, MakeStruct, PlaceElem, ElementAt, FieldOf, Part, Literal, Path, UnitStruct, Field, Strict, Update, Logic, If, Assign, Compound, Block, Labelled, Loop, Break, Continue, Return, Call, core_literal, unary_operation, unary_form, eager_form, binary_form, path_form, record_form, step_from, core_of, element_taken, expr_in, field_named, field_step, field_taken, is_adjusted_otherwise, is_adjusted_twice, is_dereferenced_pattern, part_in, step_to, value_type}
+use Rattle.source_meaning.specs.Core.{CoreExpr, Findings, are_none, Operation, MakeTuple, MakeArray, Repeat, MakeStruct, PlaceElem, ElementAt, FieldOf, Part, Literal, Path, UnitStruct, Field, Strict, Update, Logic, If, Assign, Compound, Block, Labelled, Loop, Break, Continue, Return, Call, core_literal, unary_operation, unary_form, eager_form, binary_form, call_form, path_form, record_form, step_from, core_of, element_taken, expr_in, field_named, field_step, field_taken, is_adjusted_twice, is_dereferenced_pattern, part_in, step_to, value_type}
 use Rattle.source_meaning.specs.Indices.{is_array, is_usize}
-use Rattle.source_meaning.specs.Structs.{StructAt, all_places, all_sources, struct_args}
-use Rattle.source_meaning.specs.Source.{Source, assigned_by, assigned_field, assignee_by, findings, node, pattern_expr}
+use Rattle.source_meaning.specs.Structs.{StructAt, all_places, all_sources, places_in_order, struct_args}
+use Rattle.source_meaning.specs.Source.{Source, assigned_by, assigned_field, assignee_by, findings, is_adjusted, node, pattern_expr}
 use Rattle.source_meaning.specs.Steps.{parts_of, assigned_parts, assignee_parts, statement_parts}
 use Rattle.source_meaning.proofs.Parts.{elem_parts, first_is_contained, nothing_is_contained, rest_is_contained, among_more, strict_parts, update_parts, if_parts, compound_parts, block_parts, tail_part, call_parts}
 
@@ -113,6 +113,15 @@ record_part (Some made) written (spread.Expr base) core is child within = update
 record_part (Some made) written spread.FieldDefaults core is child within = absurd cc
 record_part None written base core is child within = absurd cc
 
+-- a call of a constructor evaluates its arguments, and so does any other
+call_part : (made : Option StructAt) (callee : ExprId) (args : List ExprId) (core : CoreExpr) → call_form made callee args ≡ Some core → (child : ℕ) → Contains (parts_of (Some core)) child → Contains (expr_numbers args) child
+call_part (Some made) callee args core is child within =
+    let from = mapped (λ places. Strict (MakeStruct made.id made.args places) (expr_numbers args)) (places_in_order made.fields args) core is in
+    subst (λ parts. Contains parts child) (ap (λ c. parts_of (Some c)) (sym from.2) ∙ strict_parts (MakeStruct made.id made.args from.0) (expr_numbers args)) within
+call_part None callee args core is child within =
+    let same : core ≡ Call (Some callee.0) (expr_numbers args) = cc in
+    subst (λ parts. Contains parts child) (ap (λ c. parts_of (Some c)) same ∙ call_parts (Some callee.0) (expr_numbers args)) within
+
 block_part_is_child : (statements : List Statement) (tail : Option ExprId) (child : ℕ) → Contains (parts_of (Some (Block statements tail))) child → Contains (flat_map statement_children statements ++ optional tail) child
 block_part_is_child statements tail child within =
     ⊎_elim (λ here. Contains-append_left (flat_map statement_children statements) (optional tail) child (among_more statement_parts statement_children statements child (λ one. statement_part_is_child one child) here))
@@ -182,8 +191,7 @@ part_stands found takes (whole.Return value) core is child within =
     let same : core ≡ Return value = cc in
     as_child (subst (λ parts. Contains parts child) (ap (λ c. parts_of (Some c)) same ∙ tail_part value) within)
 part_stands found takes (whole.Call callee args) core is child within =
-    let same : core ≡ Call (Some callee.0) (expr_numbers args) = cc in
-    as_child (rest_is_contained callee.0 (expr_numbers args) child (subst (λ parts. Contains parts child) (ap (λ c. parts_of (Some c)) same ∙ call_parts (Some callee.0) (expr_numbers args)) within))
+    as_child (rest_is_contained callee.0 (expr_numbers args) child (call_part (found.constructed callee) callee args core is child within))
 part_stands found takes (whole.MethodCall receiver args name) core is child within =
     let same : core ≡ Call None (receiver.0 ∷ expr_numbers args) = cc in
     as_child (subst (λ parts. Contains parts child) (ap (λ c. parts_of (Some c)) same ∙ call_parts None (receiver.0 ∷ expr_numbers args)) within)
@@ -261,7 +269,7 @@ standing_is_below source checked e given is child (in_left left holds within) =
 part_of_form_is_below : (source : Source) → IsCheckedBody source.body source.infer → (e child : ℕ) (form : Option CoreExpr) → node source e ≡ form → Contains (parts_of form) child → child < e
 unfolding node
 part_of_form_is_below source checked e child (Some core) is within =
-    let from = node_from (is_adjusted_otherwise source.infer (record { 0 = e })) (findings source e) (expr_of source.body e) core is in
+    let from = node_from (is_adjusted source e) (findings source e) (expr_of source.body e) core is in
     standing_is_below source checked e from.0 from.1 child (part_stands (findings source e) (takes-steps source e) from.0 core from.2 child within)
 part_of_form_is_below source checked e child None is within = absurd (nothing_is_contained child within)
 

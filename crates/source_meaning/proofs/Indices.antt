@@ -12,12 +12,12 @@ use Rattle.world.specs.declared.expr.RecordSpread.{RecordSpread}
 use Rattle.world.specs.declared.expr.RecordSpread.TheVariants as spread
 use Rattle.world.specs.declared.infer.InferenceResult.{InferenceResult}
 use Rattle.world.specs.Lookups.{expr_of}
-use Rattle.world.specs.Nodes.{field_numbers}
+use Rattle.world.specs.Nodes.{expr_numbers, field_numbers}
 use Rattle.numbers.specs.declared.operator.Operator.{Operator}
 use Rattle.numbers.specs.Operators.{of_arith}
-use Rattle.source_meaning.specs.Core.{ByField, CoreExpr, CoreLiteral, ElementAt, FieldOf, Findings, Operation, MakeStruct, Part, PlaceElem, Literal, Field, Strict, Update, Compound, binary_form, core_literal, core_of, element_taken, field_taken, is_adjusted_otherwise, is_adjusted_twice, part_in, path_form, record_form, step_from, unary_form, unary_operation}
-use Rattle.source_meaning.specs.Structs.{StructAt, FieldSource, all_places, all_sources}
-use Rattle.source_meaning.specs.Source.{Source, IndexOf, assigned, assigned_by, assigned_field, cell_type, findings, index_in, index_of, node, node_type}
+use Rattle.source_meaning.specs.Core.{ByField, CoreExpr, CoreLiteral, ElementAt, FieldOf, Findings, Operation, MakeStruct, Part, PlaceElem, Literal, Field, Strict, Update, Compound, binary_form, call_form, core_literal, core_of, element_taken, field_taken, is_adjusted_twice, part_in, path_form, record_form, step_from, unary_form, unary_operation}
+use Rattle.source_meaning.specs.Structs.{StructAt, FieldSource, all_places, all_sources, places_in_order}
+use Rattle.source_meaning.specs.Source.{Source, IndexOf, assigned, assigned_by, assigned_field, cell_type, findings, index_in, index_of, is_adjusted, node, node_type}
 use Rattle.source_meaning.specs.Valid.{HasPlainIndex}
 use Rattle.source_meaning.proofs.Core.{element_taken_is, field_taken_parts, mapped, node_from}
 use Rattle.source_meaning.proofs.Parts.{elem_parts}
@@ -64,6 +64,14 @@ record-other (Some made) written (spread.Expr base) = update-other made written 
 record-other (Some made) written spread.FieldDefaults = tt
 record-other None written base = tt
 
+call-other : (made : Option StructAt) (callee : ExprId) (args : List ExprId) → IsOtherForm (call_form made callee args)
+call-other (Some made) callee args = by_places (places_in_order made.fields args)
+  where
+    by_places : (places : Option (List ℕ)) → IsOtherForm (option_map (λ given. Strict (MakeStruct made.id made.args given) (expr_numbers args)) places)
+    by_places (Some places) = tt
+    by_places None = tt
+call-other None callee args = tt
+
 -- which expression a form is that of: a field, an element, a compound assignment, or another
 data IsFormOf (found : Findings) (e : Expr) (core : CoreExpr) : Type 0 where
   a_field : (base : ExprId) (elem : PlaceElem) → found.field base ≡ Some elem → Field base.0 elem ≡ core → IsFormOf found e core
@@ -88,6 +96,7 @@ form-of found (whole.Path name) core is = another (other-from (path_form found.n
 form-of found (whole.UnaryOp operand op) core is = another (other-from (unary_form operand.0 (unary_operation op)) core (unary-other operand.0 (unary_operation op)) is)
 form-of found (whole.Cast operand) core is = another (other-from (unary_form operand.0 (found.casts operand)) core (unary-other operand.0 (found.casts operand)) is)
 form-of found (whole.RecordLit path written base) core is = another (other-from (record_form found.made written base) core (record-other found.made written base) is)
+form-of found (whole.Call callee args) core is = another (other-from (call_form (found.constructed callee) callee args) core (call-other (found.constructed callee) callee args) is)
 form-of found (whole.Block statements tail None) core is = another (other-from _ core tt is)
 form-of found (whole.Block statements tail (Some label)) core is = another (other-from _ core tt is)
 form-of found e core is = another (other-from (core_of found e) core tt is)
@@ -110,7 +119,7 @@ module _ (source : Source) where
   pub element_of_node : (e base n index : ℕ) → node source e ≡ Some (Field base (ElementAt n index)) → (n ≡ e) × (index_of source e ≡ Some index)
   unfolding node
   element_of_node e base n index is =
-      let from = node_from (is_adjusted_otherwise source.infer (record { 0 = e })) (findings source e) (expr_of source.body e) (Field base (ElementAt n index)) is in
+      let from = node_from (is_adjusted source e) (findings source e) (expr_of source.body e) (Field base (ElementAt n index)) is in
       by_form from.0 from.1 (form-of (findings source e) from.0 (Field base (ElementAt n index)) from.2)
     where
       by_form : (given : Expr) → expr_of source.body e ≡ Some given → IsFormOf (findings source e) given (Field base (ElementAt n index)) → (n ≡ e) × (index_of source e ≡ Some index)
@@ -154,7 +163,7 @@ module _ (source : Source) where
   unfolding node
   element_of_compound e op base n index value is =
       let core = Compound op (ByField base (ElementAt n index)) value in
-      let from = node_from (is_adjusted_otherwise source.infer (record { 0 = e })) (findings source e) (expr_of source.body e) core is in
+      let from = node_from (is_adjusted source e) (findings source e) (expr_of source.body e) core is in
       by_form (form-of (findings source e) from.0 core from.2)
     where
       by_form : {given : Expr} → IsFormOf (findings source e) given (Compound op (ByField base (ElementAt n index)) value) → index_of source n ≡ Some index

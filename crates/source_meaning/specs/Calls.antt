@@ -25,7 +25,7 @@ use Rattle.world.specs.declared.database.HirDatabase.{HirDatabase}
 use Rattle.world.specs.declared.infer.MethodRes.{MethodRes}
 use Rattle.world.specs.Lookups.{body_row}
 use Rattle.source_meaning.specs.Contents.{Contents}
-use Rattle.source_meaning.specs.Source.{Source, monomorphic, Store, Cell, Result, Binding, bound_by, own_type, pattern, cell_size, zeroed, with_cell_bytes}
+use Rattle.source_meaning.specs.Source.{Source, is_marked, monomorphic, Store, Cell, Result, Binding, bound_by, own_type, pattern, cell_size, zeroed, with_cell_bytes}
 
 -- a type's variant
 abbrev TyLayer : Type 0
@@ -73,7 +73,7 @@ source_called source e callee = option_and_then (source_of source.world) (functi
 -- Whether a call is one whose callee must not return: those that inference found diverging. In MIR the call's terminator has no target
 -- block then.
 unfoldable pub must_not_return : Source → ℕ → Bool
-must_not_return source e = list_any (λ (call : ExprId). call.0 == e) source.infer.diverging
+must_not_return source e = is_marked source e
 
 -- the bindings that patterns are the plain names of, one each
 unfoldable pub names_bound : Source → List PatId → Option (List ℕ)

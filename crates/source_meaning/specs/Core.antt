@@ -47,7 +47,7 @@ use Rattle.world.specs.declared.pat.Pat.{Pat}
 use Rattle.world.specs.Lookups.{type_of}
 use Rattle.world.specs.Nodes.{expr_numbers, field_numbers}
 use Rattle.source_meaning.specs.Indices.{is_array, is_usize}
-use Rattle.source_meaning.specs.Structs.{StructAt, FieldSource, all_places, all_sources, struct_args, struct_of}
+use Rattle.source_meaning.specs.Structs.{StructAt, FieldSource, all_places, all_sources, places_in_order, struct_args, struct_of}
 
 -- a literal with a meaning: a truth value, a whole number, or a character, by its code point
 pub data CoreLiteral : Type 0 where
@@ -95,7 +95,8 @@ pub data Assigned : Type 0 where
 -- its branches. An assignment writes a value to what its target names, and a compound one what an operator makes of what lies there and the value. A `loop` evaluates its body again and again. A `break`
 -- ends a loop or a labelled block around it, with a value or without, and a `continue` starts it again. A `return` ends the
 -- body, with a value or without. A call evaluates its arguments from left to right, and then enters the body of a function: the one that
--- its callee's type names, or, where it is a method call, the one that it is resolved to; the receiver is its first argument. A field is
+-- its callee's type names, or, where it is a method call, the one that it is resolved to; the receiver is its first argument. A call of the constructor
+-- of a struct enters no body: like a struct literal it is a strict form, which makes the struct. A field is
 -- a part of its base, which is a tuple, a struct or an array; so an index expression is one as well, whose base has its place before the index is
 -- evaluated. A struct literal with a base has the base's place first, then operands from left to right, and
 -- makes a struct of both; for each field of the struct, in the order of its row, it has what gives the field (`FieldSource`). A path to a
@@ -184,6 +185,13 @@ record_form (Some made) written spread.None =
 record_form (Some made) written (spread.Expr base) = update_form base.0 made written
 record_form _ written _ = None
 
+-- A call, by the struct whose constructor the callee is, if it is one: a constructor makes the struct, and its arguments give the fields in their order.
+-- With any other callee it is a call of a function, which has a meaning where the callee is one.
+abbrev pub call_form : Option StructAt → (callee : ExprId) → (args : List ExprId) → Option CoreExpr
+call_form (Some made) callee args =
+    option_map (λ places. Strict (MakeStruct made.id made.args places) (expr_numbers args)) (places_in_order made.fields args)
+call_form None callee args = Some (Call (Some callee.0) (expr_numbers args))
+
 -- a path: a value of a unit struct, or else a name, if it isn't resolved to an item
 abbrev pub path_form : (names_unit names_item : Bool) → (name : List ℕ) → Option CoreExpr
 path_form true names_item name = Some UnitStruct
@@ -204,6 +212,8 @@ pub record Findings : Type 0 where
   pub element : (base index : ExprId) → Option PlaceElem
   -- the struct that it makes a value of, where it is resolved to one
   pub made : Option StructAt
+  -- the struct that it makes of its arguments, where it calls what is the constructor of one
+  pub constructed : ExprId → Option StructAt
   -- what a pattern is as the target of an assignment
   pub assignee : PatId → Assignee
   -- what an expression is as the target of a compound assignment
@@ -226,7 +236,7 @@ core_of found (expr.Loop body label) = Some (Loop label body.0)
 core_of found (expr.Break value label) = Some (Break label value)
 core_of found (expr.Continue label) = Some (Continue label)
 core_of found (expr.Return value) = Some (Return value)
-core_of found (expr.Call callee args) = Some (Call (Some callee.0) (expr_numbers args))
+core_of found (expr.Call callee args) = call_form (found.constructed callee) callee args
 core_of found (expr.MethodCall receiver args name) = Some (Call None (receiver.0 ∷ expr_numbers args))
 core_of found (expr.Tuple parts) = Some (Strict MakeTuple (expr_numbers parts))
 core_of found (expr.Array elements) = Some (Strict MakeArray (expr_numbers elements))
@@ -374,6 +384,11 @@ abbrev pub named_path : Expr → Option (List ℕ)
 named_path (expr.Path name) = Some name
 named_path _ = None
 
+-- whether there are adjustments
+abbrev pub are_any : Option (List Adjustment) → Bool
+are_any (Some (step ∷ steps)) = true
+are_any _ = false
+
 -- whether there is more than one adjustment
 abbrev pub are_many : Option (List Adjustment) → Bool
 are_many (Some (step ∷ other ∷ steps)) = true
@@ -409,7 +424,7 @@ is_place (Some (Path name)) = true
 is_place (Some (Field base field)) = true
 is_place _ = false
 
--- an expression that is no call
+-- an expression that is no call of a function
 abbrev pub IsNoCall : Option CoreExpr → Type 0
 IsNoCall (Some (Call callee args)) = ⊥
 IsNoCall _ = Unit {0}

@@ -204,8 +204,8 @@ made_into source id args (Some fields) path store =
     within_bounds (some_out source store fields) (put_answer store path (struct_of (layout_of source.world (Adt (adt.StructId id) args)) (values_of source store fields)))
 made_into source id args None path store = Stuck
 
--- An operation finds its operands' places, reads them all, computes, and writes. The operands of a struct literal are those that give its fields, in the
--- order of these.
+-- An operation finds its operands' places, reads them all, computes, and writes. The operands of a struct literal, and of a call of a constructor, are those
+-- that give the fields, in the order of these.
 abbrev pub operated_into : Source → ℕ → Operation → (given : List Operand) → Path → Store → End (Unit {0})
 operated_into source e (MakeStruct id args places) given path store = made_into source id args (picked places given) path store
 operated_into source e operation given path store =

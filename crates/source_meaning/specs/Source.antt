@@ -1,9 +1,11 @@
 -- A typed body in its world, its nodes, and the cells that hold their values.
-use Rattle.std.specs.Prelude.{◌≡◌, ◌==◌, ◌||◌, ℕ, Bool, true, false, cond, List, [], ◌∷◌, ◌++◌, length, filter, not, replicate, Option, Some, None, is_some, slice_get, unwrap_or, option_map, option_and_then, if◌then◌else◌}
+use Rattle.std.specs.Prelude.{◌≡◌, ◌==◌, ◌||◌, ◌&&◌, ℕ, Bool, true, false, cond, List, [], ◌∷◌, ◌++◌, length, filter, flat_map, not, replicate, Option, Some, None, is_some, slice_get, unwrap_or, option_map, option_and_then, if◌then◌else◌}
 use Rattle.std.specs.BTreeMap.{is_at}
+use Rattle.std.specs.List.{list_any}
 use Rattle.std.specs.Map.{lookup}
 use Rattle.types.specs.contracts.ids.ExprIdOrd.TheImpl as ExprIdOrd
 use Rattle.types.specs.contracts.ids.PatIdOrd.TheImpl as PatIdOrd
+use Rattle.world.specs.declared.adjust.Adjustment.{Adjustment}
 use Rattle.world.specs.declared.body.Body.{Body}
 use Rattle.world.specs.declared.database.HirDatabase.{HirDatabase}
 use Rattle.world.specs.declared.expr.Expr.{Expr}
@@ -20,8 +22,8 @@ use Rattle.types.specs.declared.ids.VariantId.{VariantId}
 use Rattle.world.specs.Lookups.{layout_of, type_of, expr_of, is_copy}
 use Rattle.numbers.specs.Constants.{number_of_bytes}
 use Rattle.source_meaning.specs.Contents.{Contents, bytes_in, holding}
-use Rattle.source_meaning.specs.Core.{Assigned, Assignee, ByField, ByPath, ByPattern, ByPlace, CoreExpr, Findings, PlaceElem, cast_operation, core_of, element_taken, expr_in, field_taken, is_adjusted_otherwise, is_adjusted_twice, named_path, part_in, type_after, is_adjusted_pattern, is_dereferenced_pattern, path_of, pattern_names_item, local_named, name_of, names_item, names_unit, never_target}
-use Rattle.source_meaning.specs.Structs.{struct_made}
+use Rattle.source_meaning.specs.Core.{Assigned, Assignee, ByField, ByPath, ByPattern, ByPlace, CoreExpr, Findings, PlaceElem, are_any, cast_operation, core_of, element_taken, expr_in, field_taken, is_adjusted_otherwise, is_adjusted_twice, named_path, part_in, type_after, is_adjusted_pattern, is_dereferenced_pattern, path_of, pattern_names_item, local_named, name_of, names_item, names_unit, never_target}
+use Rattle.source_meaning.specs.Structs.{StructAt, struct_constructed, struct_made}
 
 -- a typed body in its world, and the arguments of its generics, of which there are none in any body that has a meaning so far
 pub record Source : Type 0 where
@@ -65,6 +67,24 @@ assigned source e = assigned_by e.0 (assigned_field source e.0)
 abbrev pub variant_named : Source → ℕ → Option VariantId
 variant_named source e = lookup (is_at (ExprIdOrd.ghosts.cmp (record { 0 = e }))) source.infer.variant_res
 
+-- the adjustments of an expression's value, where it is listed with some
+abbrev pub adjustments : Source → ℕ → Option (List Adjustment)
+adjustments source e = lookup (is_at (ExprIdOrd.ghosts.cmp (record { 0 = e }))) source.infer.expr_adjustments
+
+-- whether a call is listed as one whose callee must not return
+abbrev pub is_marked : Source → (call : ℕ) → Bool
+is_marked source e = list_any (λ (call : ExprId). call.0 == e) source.infer.diverging
+
+-- the struct whose constructor a callee of the source is, where it is a path of the type of one, and isn't adjusted
+unfoldable pub constructor_at : Source → (callee : ExprId) → Option StructAt
+constructor_at source callee =
+    if are_any (adjustments source callee.0) then None
+    else option_and_then (λ name. option_and_then (struct_constructed source.world) (type_of source.infer callee.0)) (option_and_then named_path (expr_of source.body callee.0))
+
+-- the struct that a call makes of its arguments, where it is one of a constructor; one that is listed as not returning has no meaning so far
+abbrev pub constructed : Source → (call : ℕ) → (callee : ExprId) → Option StructAt
+constructed source e callee = if is_marked source e then None else constructor_at source callee
+
 -- what the form of an expression of the source depends on
 abbrev pub findings : Source → ℕ → Findings
 findings source e = record {
@@ -74,15 +94,38 @@ findings source e = record {
   field = field_taken source.infer (record { 0 = e });
   element = element_taken source.infer (record { 0 = e });
   made = struct_made source.world (variant_named source e) (type_of source.infer e);
+  constructed = constructed source e;
   assignee = assignee source;
   assigned = assigned source;
 }
 
+-- the base of an index expression
+abbrev pub base_in : Expr → List ExprId
+base_in (expr.Index base index) = base ∷ []
+base_in _ = []
+
+-- the bases of the index expressions among expressions
+unfoldable pub index_bases : List Expr → List ExprId
+index_bases exprs = flat_map base_in exprs
+
+-- Whether an expression is the base of an index expression, and is adjusted at most once. That adjustment, of any other kind than `NeverToAny`, isn't
+-- looked at: inference adds one there, by which the method of `Index` would borrow the base. In a checked world an expression stands in one other at
+-- most, but for the root, which is none here.
+abbrev pub is_indexed_itself : Source → ℕ → Bool
+is_indexed_itself source e =
+    list_any (λ (base : ExprId). base.0 == e) (index_bases source.body.exprs)
+    && not (e == source.body.body_expr.0)
+    && not (is_adjusted_twice source.infer (record { 0 = e }))
+
+-- whether an expression's value is adjusted before it is used, in another way than by `NeverToAny` alone, and that is looked at
+unfoldable pub is_adjusted : Source → ℕ → Bool
+is_adjusted source e = is_adjusted_otherwise source.infer (record { 0 = e }) && not (is_indexed_itself source e)
+
 -- an expression itself, as it is before its value is adjusted, where it is of a form with a meaning and its only adjustment, if
--- any, is `NeverToAny`
+-- any, is `NeverToAny`, or isn't looked at
 unfoldable pub node : Source → ℕ → Option CoreExpr
 node source e =
-    if is_adjusted_otherwise source.infer (record { 0 = e }) then None
+    if is_adjusted source e then None
     else option_and_then (core_of (findings source e)) (expr_of source.body e)
 
 -- whether an expression's value is adjusted by `NeverToAny`
@@ -93,7 +136,7 @@ diverges source e = is_some (never_target source.infer (record { 0 = e }))
 abbrev pub unadjusted : Source → ℕ → Option CoreExpr
 unadjusted source e = cond (diverges source e) None (node source e)
 
--- the type of an expression itself, and of its value after its adjustments
+-- the type of an expression itself, and of its value after `NeverToAny`, where it is adjusted by that
 unfoldable pub own_type : Source → ℕ → Option Ty
 own_type source e = type_of source.infer e
 

@@ -1,9 +1,11 @@
--- Structs: which one a struct literal makes a value of, which written field or which field of its base gives each of its fields, and of which
--- types these are.
+-- Structs: which one a struct literal or a call of a constructor makes a value of, which written field, which field of a base or which argument gives
+-- each of its fields, and of which types these are.
 use Rattle.std.specs.Prelude.{◌≡◌, ℕ, ◌==◌, Bool, true, false, suc, List, [], ◌∷◌, length, filter, position, Option, Some, None, slice_get, option_map, option_and_then, if◌then◌else◌}
 use Rattle.std.specs.Cmp.Lexicographic.{pointwise}
 use Rattle.check_instances.specs.Instances.{ty_instance}
 use Rattle.types.specs.declared.ids.AdtId.TheVariants as adt
+use Rattle.types.specs.declared.ids.CallableDefId.TheVariants.{StructId as ConstructorOf}
+use Rattle.types.specs.declared.ids.ExprId.{ExprId}
 use Rattle.types.specs.declared.ids.FieldId.{FieldId}
 use Rattle.types.specs.declared.ids.StructId.{StructId}
 use Rattle.types.specs.declared.ids.VariantId.{VariantId}
@@ -57,6 +59,23 @@ struct_with world id args = option_map (λ fields. record { id = id; args = args
 abbrev pub struct_made : HirDatabase → (named : Option VariantId) → Option Ty → Option StructAt
 struct_made world (Some (variant.StructId id)) ty = option_and_then (struct_with world id) (option_and_then (struct_args id) ty)
 struct_made world _ ty = None
+
+-- the struct whose constructor a type is the one of, at the type's generic arguments, with its fields
+abbrev constructor_of : HirDatabase → TyLayer → Option StructAt
+constructor_of world (layer.FnDef (ConstructorOf id) args) = struct_with world id args
+constructor_of world _ = None
+
+abbrev pub struct_constructed : HirDatabase → Ty → Option StructAt
+struct_constructed world ty = constructor_of world (out-Ty ty)
+
+-- the places of the elements of a list, the first of which has this one
+unfoldable pub places_from : {A : Type 0} → (first : ℕ) → List A → List ℕ
+places_from first [] = []
+places_from first (x ∷ xs) = first ∷ places_from (suc first) xs
+
+-- the places of the arguments of a constructor that give the fields of its struct, in the order of these, where there is one for each, and no other
+abbrev pub places_in_order : List FieldRow → (args : List ExprId) → Option (List ℕ)
+places_in_order fields args = if length fields == length args then Some (places_from 0 args) else None
 
 -- the place, among the written fields of a literal, of the first one with a name
 abbrev pub place_named : (name : List ℕ) → List RecordLitField → Option ℕ

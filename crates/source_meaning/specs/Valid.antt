@@ -1,5 +1,6 @@
 -- Which sources the theorem speaks of.
-use Rattle.std.specs.Prelude.{◌≡◌, ℕ, true, cond, List, [], ◌∷◌, length, flat_map, Contains, All, Option, Some, None, option_and_then, slice_get}
+use Rattle.std.specs.Prelude.{◌≡◌, ℕ, true, cond, List, [], ◌∷◌, length, flat_map, Contains, All, ◌⊎◌, Option, Some, None, option_and_then, slice_get}
+use Rattle.world.specs.declared.adjust.Adjustment.{Adjustment}
 use Rattle.world.specs.declared.body.Statement.{Statement}
 use Rattle.world.specs.declared.body.Statement.TheVariants as statement
 use Rattle.types.specs.declared.ids.BindingId.{BindingId}
@@ -17,10 +18,11 @@ use Rattle.world.specs.declared.items.FieldsShape.TheVariants.{Unit as UnitShape
 use Rattle.world.specs.declared.items.FunctionRow.{FunctionRow}
 use Rattle.world.specs.declared.items.StructRow.{StructRow}
 use Rattle.world.specs.declared.layout.Layout.{Layout}
+use Rattle.types.specs.declared.scalars.Mutability.{Mutability}
 use Rattle.types.specs.declared.scalars.UintTy.TheVariants.{Usize}
 use Rattle.types.specs.declared.ty.Const.{Const}
 use Rattle.types.specs.declared.ty.GenericArgs.{GenericArgs}
-use Rattle.types.specs.declared.ty.Ty.TheVariants.{Adt as AdtTy, Array as ArrayTy, Tuple as TupleTy}
+use Rattle.types.specs.declared.ty.Ty.TheVariants.{Adt as AdtTy, Array as ArrayTy, Ref as RefTy, Tuple as TupleTy}
 use Rattle.types.specs.declared.ty.Ty.{Ty, Bool as BoolTy, Int as IntTy, Uint as UintTy, Char as CharTy, Never as NeverTy}
 use Rattle.world.specs.declared.expr.Expr.TheVariants as whole
 use Rattle.world.specs.Lookups.{expr_of, fields_of, layout_of, function_row}
@@ -31,7 +33,7 @@ use Rattle.source_meaning.specs.Around.{Opened, meant}
 use Rattle.source_meaning.specs.Calls.{function_called, source_of, source_called, parameters}
 use Rattle.source_meaning.specs.Core as expr
 use Rattle.source_meaning.specs.Core.{Assigned, Assignee, ByField, ByPath, ByPattern, ByPlace, CoreExpr, CoreLiteral, Truth, Number, Character, Operation, Negate, Invert, Keep, Convert, Combine, MakeTuple, MakeArray, Repeat, MakeStruct, PlaceElem, Part, FieldOf, ElementAt, is_place, is_truth, IsNoCall}
-use Rattle.source_meaning.specs.Source.{Source, node, unadjusted, diverges, own_type, node_type, binding_type, pattern, pattern_type, target, compound_target, named_by, root}
+use Rattle.source_meaning.specs.Source.{Source, adjustments, node, unadjusted, diverges, own_type, node_type, binding_type, pattern, pattern_type, target, compound_target, named_by, root}
 use Rattle.source_meaning.specs.Structs.{AreFieldTypes, FieldSource, Written, OfBase, field_type, picked}
 use Rattle.source_meaning.specs.Steps.{Step, steps_of, step_part, parts_of}
 use Rattle.source_meaning.specs.Steps as step
@@ -275,6 +277,15 @@ abbrev pub HasPlainIndex : Source → PlaceElem → Type 0
 HasPlainIndex source (ElementAt e index) = node_type source index ≡ Some (UintTy Usize)
 HasPlainIndex source _ = Unit {0}
 
+-- an adjustment of an index's base leads to the type that the base has, or to a reference to it
+abbrev pub LeadsToBase : (base : Ty) → Adjustment → Type 0
+LeadsToBase base step = (step.target ≡ base) ⊎ ((mutability : Mutability) × (step.target ≡ RefTy base mutability))
+
+-- and so does each adjustment that it has
+abbrev pub HasPlainBase : Source → PlaceElem → (base : ℕ) → (ty : Ty) → Type 0
+HasPlainBase source (ElementAt e index) base ty = (steps : List Adjustment) → adjustments source base ≡ Some steps → All (LeadsToBase ty) steps
+HasPlainBase source _ base ty = Unit {0}
+
 -- what gives a field has a type that the field has at generic arguments: a written operand's, or that of a field of the base
 abbrev pub IsGiven : HirDatabase → GenericArgs → (base : Ty) → (types : List Ty) → FieldRow → FieldSource → Type 0
 IsGiven world args base types row (Written place) = (ty : Ty) × (slice_get types place ≡ Some ty) × (field_type world args row ≡ Some ty)
@@ -297,13 +308,14 @@ pub record IsPlainUpdate (source : Source) (base : ℕ) (id : StructId) (args : 
   pub operands_have : HaveTypes source operands types
   pub each : AreGiven source.world args ty types fields sources
 
--- the type of a field's base has what inference resolved the field to, of the field's type; the base of an index is an array of elements of its type, and the
--- index a `usize`
+-- the type of a field's base has what inference resolved the field to, of the field's type; the base of an index is an array of elements of the index
+-- expression's type, an adjustment of the base leads to that array's type or to a reference to it, and the index is a `usize`
 pub record IsPlainField (source : Source) (base : ℕ) (elem : PlaceElem) (ty : Ty) : Type 0 where
   pub base_ty : Ty
   pub base_has : node_type source base ≡ Some base_ty
   pub has_elem : HasElem source.world elem base_ty ty
   pub has_index : HasPlainIndex source elem
+  pub base_leads : HasPlainBase source elem base base_ty
 
 -- the target of a compound assignment is a place of a type
 abbrev pub IsPlainAssigned : Source → Assigned → Ty → Type 0
@@ -495,6 +507,6 @@ pub data Reaches : Source → Source → Type 0 where
 pub record IsPlainThroughout (source : Source) : Type 0 where
   pub each : (reached : Source) → Reaches source reached → IsPlain reached
 
--- no expression that is evaluated is a call, so that a source reaches itself alone
+-- no expression that is evaluated is a call of a function, so that a source reaches itself alone
 abbrev pub HasNoCalls : Source → Type 0
 HasNoCalls source = (e : ℕ) → Evaluates source (root source) e → IsNoCall (node source e)

@@ -1,7 +1,7 @@
--- A field's form is by what it is resolved to, an element's by the types of its base and its index, and a struct literal's by the struct that it makes. The other variants have no form with a meaning.
+-- A field's form is by what it is resolved to, an element's by the types of its base and its index, a call's by the constructor that it calls, if any, and a struct literal's by the struct that it makes. The other variants have no form with a meaning.
 use Rattle.std.proofs.Common.{sym, ap, ◌∙◌, subst}
 use Rattle.std.specs.Prelude.{option_map}
-use Rattle.source_meaning.specs.Core.{Field, record_form}
+use Rattle.source_meaning.specs.Core.{Field, call_form, record_form}
 use Rattle.source_meaning.specs.Source.{findings}
 use Rattle.world.specs.declared.expr.Expr.{Expr}
 use Rattle.body_forms.specs.Contexts.{source_of}
@@ -26,6 +26,12 @@ returns-in-RecordLit c =
     let given = c.record_form.ensures c.in-RecordLit.path in
     subst (λ (x : Expr). IsFormOf (findings (source_of c.args.context.now) c.args.e.0) x c.record_form.result) (sym c.in-RecordLit.is)
     (record { core = ap (λ made. record_form made c.in-RecordLit.fields c.in-RecordLit.spread) (sym c.struct_made.ensures) ∙ given.core; cause = given.cause })
+
+pub returns-in-Call : goal.returns-in-Call
+returns-in-Call c =
+    let given = c.call_form.ensures in
+    subst (λ (x : Expr). IsFormOf (findings (source_of c.args.context.now) c.args.e.0) x c.call_form.result) (sym c.in-Call.is)
+    (record { core = ap (λ made. call_form made c.in-Call.callee c.in-Call.args) (sym c.constructed.ensures) ∙ given.core; cause = given.cause })
 
 pub returns-in_default : goal.returns-in_default
 returns-in_default c =

@@ -1,4 +1,4 @@
-use Rattle.std.proofs.Common.{◌≡◌, List, sym, ap, ◌∙◌}
+use Rattle.std.proofs.Common.{List, sym, ap, ◌∙◌}
 use Rattle.world.specs.declared.expr.RecordLitField.{RecordLitField}
 use Rattle.world.specs.declared.items.FieldRow.{FieldRow}
 use Rattle.source_meaning.specs.Structs.{field_sources, place_named, source_by}

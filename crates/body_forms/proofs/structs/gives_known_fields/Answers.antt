@@ -1,4 +1,4 @@
-use Rattle.std.proofs.Common.{◌≡◌, ◌==◌, List, length, sym, ap, ◌∙◌}
+use Rattle.std.proofs.Common.{◌==◌, List, length, ap, ◌∙◌}
 use Rattle.std.specs.Prelude.{count_by, is_some}
 use Rattle.world.specs.declared.expr.RecordLitField.{RecordLitField}
 use Rattle.world.specs.declared.items.FieldRow.{FieldRow}

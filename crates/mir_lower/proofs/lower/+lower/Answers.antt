@@ -19,7 +19,7 @@ use Rattle.mir.specs.declared.operand.Place.{Place}
 use Rattle.mir.specs.declared.operand.Rvalue.TheVariants.{Aggregate, CheckedBinaryOp}
 use Rattle.source_meaning.specs.Core as expr
 use Rattle.source_meaning.specs.Core.{ByPath, ByPattern, Combine, FieldOf, MakeStruct, Part}
-use Rattle.body_forms.specs.Form.{IsPlaceForm, core_assigned, core_assignee, core_elem, core_source, core_value, field_elem, part_elem}
+use Rattle.body_forms.specs.Form.{IsPlaceForm, core_assigned, core_assignee, core_elem, core_source, core_value, exprs_given, field_elem, part_elem}
 use Rattle.body_forms.specs.declared.form.FieldStep.{FieldStep}
 use Rattle.body_forms.specs.Refusals.{IsUnbuilt}
 use Rattle.body_forms.specs.declared.form.Assigned.{Assigned}
@@ -44,7 +44,7 @@ use Rattle.source_meaning.proofs.Indices.{node_has_index, target_has_index}
 use Rattle.mir_lower.proofs.Projecting.{at-later, place-known}
 use Rattle.mir_lower.proofs.Operands.{lowers-literal-operand, lowers-place-operand, lowers-temp, lowers-name}
 use Rattle.mir_lower.proofs.Rvalues.{is-aggregate}
-use Rattle.mir_lower.proofs.Structs.{all-operands, as-many-written, one-more-operand, struct-form}
+use Rattle.mir_lower.proofs.Structs.{all-operands, as-many-numbers, as-many-written, one-more-operand, struct-form}
 use Rattle.mir_lower.proofs.Strict.{lowers-strict, lowers-one, lowers-two, first-part, second-part}
 use Rattle.body_forms.specs.Operations.{several_operation, single_operation}
 use Rattle.mir_lower.proofs.Refused.{refuses-here, refuses-no-memory, refuses-part, refuses-unbuilt, refuses-unbuilt-form, refuses-statement, without-initializer, with-else, item-is-unbuilt, refuses-pattern, refuses-target, refused-exit, part-below, part-of-statement, refuses-break}
@@ -482,13 +482,13 @@ lower_struct-returns-in_err-parts-clause-refused t c =
 pub lower_struct-lower_operands-requires : goal.lower_struct-lower_operands-requires
 lower_struct-lower_operands-requires t c =
     let source = source_of c.args.context.now in
-    let literal = c.args.literal in
-    let has = struct-form source c.args.e.0 literal c.requires.form c.requires.given in
-    let es-are = ap expr_numbers c.as_slice-2.ensures ∙ c.in_ok-parts.ensures ∙ ap field_numbers c.as_slice.ensures in (
+    let value = c.args.value in
+    let has = struct-form source c.args.e.0 value c.requires.form c.requires.given in
+    let es-are = ap expr_numbers c.as_slice.ensures ∙ c.in_ok-parts.ensures in (
       omega arith,
       (
         parts-ready source (shape c.args.graph.now) c.args.e.0 (λ outer. ap (λ n. opened_in c.args.e.0 n outer) has.form) c.requires.ready,
-        all-are-parts _ _ (ap parts_of has.form ∙ strict_parts (MakeStruct literal.made.id literal.made.args.now has.places) (field_numbers literal.written.now) ∙ sym es-are),
+        all-are-parts _ _ (ap parts_of has.form ∙ strict_parts (MakeStruct value.made.id value.made.args.now has.places) (exprs_given value.given) ∙ sym es-are),
       ),
     )
 
@@ -502,7 +502,7 @@ pub lower_struct-struct_value-requires : goal.lower_struct-struct_value-requires
 lower_struct-struct_value-requires t c =
     record {
       given = c.requires.given;
-      many = c.in_ok-operands.ensures.many ∙ ap length c.as_slice-2.ensures ∙ as-many-written c.in_ok-parts.parts c.args.literal.written.now (c.in_ok-parts.ensures ∙ ap field_numbers c.as_slice.ensures);
+      many = c.in_ok-operands.ensures.many ∙ ap length c.as_slice.ensures ∙ as-many-numbers c.in_ok-parts.parts (exprs_given c.args.value.given) c.in_ok-parts.ensures;
     }
 
 pub lower_struct-returns-in_err-made-clause-refused : goal.lower_struct-returns-in_err-made-clause-refused
@@ -513,28 +513,28 @@ lower_struct-returns-in_err-made-clause-refused t c =
 pub lower_struct-returns-clause-lowered : goal.lower_struct-returns-clause-lowered
 lower_struct-returns-clause-lowered t c =
     let source = source_of c.args.context.now in
-    let literal = c.args.literal in
-    let has = struct-form source c.args.e.0 literal c.requires.form c.requires.given in
+    let value = c.args.value in
+    let has = struct-form source c.args.e.0 value c.requires.form c.requires.given in
     let s0 = shape c.args.graph.now in
     let s1 = shape c.lower_operands.new.graph in
-    let es = field_numbers literal.written.now in
+    let es = exprs_given value.given in
     let operands = c.in_ok-operands.operands in
-    let es-are = ap expr_numbers c.as_slice-2.ensures ∙ c.in_ok-parts.ensures ∙ ap field_numbers c.as_slice.ensures in
+    let es-are = ap expr_numbers c.as_slice.ensures ∙ c.in_ok-parts.ensures in
     let given : LowersOperands source s0 s1 es (map (λ (operand : Operand). operand.kind) operands) =
     subst (λ (list : List ℕ). LowersOperands source s0 s1 list (map (λ (operand : Operand). operand.kind) operands)) es-are c.in_ok-operands.ensures.lowered in
     on_ok_weaker c.assign.result
-    (λ added cell local. lowers-strict source s0 s1 (shape c.assign.new.graph) c.args.e.0 (MakeStruct literal.made.id literal.made.args.now has.places) es operands c.in_ok-made.made c.args.to (ExprId c.args.e) c.requires.ready has.form given
+    (λ added cell local. lowers-strict source s0 s1 (shape c.assign.new.graph) c.args.e.0 (MakeStruct value.made.id value.made.args.now has.places) es operands c.in_ok-made.made c.args.to (ExprId c.args.e) c.requires.ready has.form given
     (c.in_ok-made.ensures source c.args.e.0 has.places has.are) added cell local)
     c.assign.ensures.added
 
 pub lower_struct-returns-clause-built : goal.lower_struct-returns-clause-built
 lower_struct-returns-clause-built t c =
     let source = source_of c.args.context.now in
-    let literal = c.args.literal in
-    let has = struct-form source c.args.e.0 literal c.requires.form c.requires.given in
-    let es-are = ap expr_numbers c.as_slice-2.ensures ∙ c.in_ok-parts.ensures ∙ ap field_numbers c.as_slice.ensures in
+    let value = c.args.value in
+    let has = struct-form source c.args.e.0 value c.requires.form c.requires.given in
+    let es-are = ap expr_numbers c.as_slice.ensures ∙ c.in_ok-parts.ensures in
     on_ok_weaker c.assign.result
-    (λ added. built-strict source c.args.e.0 (MakeStruct literal.made.id literal.made.args.now has.places) (field_numbers literal.written.now) has.form tt (subst (All (IsBuilt source)) es-are c.in_ok-operands.ensures.built)) c.assign.ensures.added
+    (λ added. built-strict source c.args.e.0 (MakeStruct value.made.id value.made.args.now has.places) (exprs_given value.given) has.form tt (subst (All (IsBuilt source)) es-are c.in_ok-operands.ensures.built)) c.assign.ensures.added
 
 pub lower_struct-returns-clause-refused : goal.lower_struct-returns-clause-refused
 lower_struct-returns-clause-refused t c =
