@@ -17,8 +17,8 @@ from pathlib import Path
 
 ROOT = Path(__file__).resolve().parent.parent
 MOST_EDITS_OF_ONE, MOST_EDITS, MOST_FUNCTIONS = 3, 40, 100
-# All crates stand on `types`: splitting it would make the longest chain of crates nine.
-LARGE = {"types": 135}
+# Splitting these would make the longest chain of crates nine: all crates stand on `types`, and `mir_eval` stands between `mir_mem` and `consteval`.
+LARGE = {"types": 135, "mir_eval": 114}
 FUNCTION = re.compile(r"^ *(?:pub(?:\(crate\))? )?(?:const )?fn (?!drop\(self\))", re.M)
 TEST = re.compile(r"^ *#\[test\]", re.M)
 
