@@ -275,6 +275,8 @@ class Reading:
             for name in ("expr_adjustments", "value_res", "assoc_res", "variant_res", "field_res", "pat_value_res", "pat_assoc_res",
                          "pat_variant_res", "pat_adjustments", "binding_modes")
         }
+        bases = {part["base"] for name, part in map(variant, self.exprs) if name == "Index"} - {row["body"]["body_expr"]}
+        self.rows["expr_adjustments"] = {e: steps for e, steps in self.rows["expr_adjustments"].items() if e not in bases or is_looked_at(steps)}
         self.rows["diverging"] = set(found.get("diverging", []))
         self.rows["coercion_casts"] = set(found.get("coercion_casts", []))
         self.layouts = {key(ty): layout for ty, layout in world.get("layouts", [])}
@@ -591,7 +593,14 @@ class Reading:
         self.body.drops[e] = self.count(0)
 
     def own_call(self, e, part):
-        self.called(function_called(self.body.infer, part), part.get("args", []))
+        """A call of a function, or of what builds a struct, which has an argument for each field."""
+        made, args = constructed(self.body, self.rows, e, part), part.get("args", [])
+        if made is None:
+            self.called(function_called(self.body.infer, part), args)
+        elif len(args) == len(self.world["structs"][made[0]].get("fields", [])):
+            self.operands(args)
+        else:
+            raise Refusal(NOT_BUILT)
 
     def own_methodcall(self, e, part):
         self.called(method_called(self.body.infer, e), method_args(part))
@@ -608,6 +617,21 @@ def names_unit(rows, infer, e):
     type, or to `Self`, and its own type is a struct. Whether that has fields isn't asked."""
     found, made = rows["variant_res"].get(e, rows["value_res"].get(e)), struct_in(infer["expr_types"][e])
     return e not in rows["assoc_res"] and made is not None and found in ({"StructId": made[0]}, "ImplSelf")
+
+
+def is_looked_at(steps):
+    """Whether the steps of an index's base are looked at: one of another kind than `NeverToAny` isn't."""
+    return len(steps) != 1 or steps[0]["kind"] == "NeverToAny"
+
+
+def constructed(body, rows, e, part):
+    """The struct whose name a call has as its callee, with the generic arguments, or None. The callee has to be a path that isn't adjusted, and the call
+    one that isn't marked as diverging."""
+    name, called = variant(body.infer["expr_types"][part["callee"]])
+    is_path = variant(body.body["exprs"][part["callee"]])[0] == "Path" and not rows["expr_adjustments"].get(part["callee"])
+    if not is_path or e in rows["diverging"] or name != "FnDef" or variant(called[0])[0] != "StructId":
+        return None
+    return called[0]["StructId"], called[1]
 
 
 def base_of(part):
@@ -1015,7 +1039,7 @@ class Run:
 
     def own_tuple(self, frame, e, part, cell):
         """A tuple, by its parts."""
-        self.laid(frame, e, self.values(frame, part.get("exprs", [])), cell)
+        self.laid(frame, frame.body.infer["expr_types"][e], self.values(frame, part.get("exprs", [])), cell)
 
     def own_recordlit(self, frame, e, part, cell):
         """A struct. The place of its base is found, what is written is evaluated in its order, and then the fields are put in the order
@@ -1030,11 +1054,11 @@ class Run:
             given[names.index(one["name"])] if one["name"] in names else self.part_at(frame, base, kept[place])
             for place, one in enumerate(fields)
         ]
-        self.laid(frame, e, self.used(frame, *operands), cell)
+        self.laid(frame, frame.body.infer["expr_types"][e], self.used(frame, *operands), cell)
 
-    def laid(self, frame, e, parts, cell):
-        """A value with parts, which are put in order to their offsets in zero bytes."""
-        layout = self.layouts.get(key(frame.body.infer["expr_types"][e]))
+    def laid(self, frame, ty, parts, cell):
+        """A value of a type with parts, which are put in order to their offsets in zero bytes."""
+        layout = self.layouts.get(key(ty))
         if layout is None:
             raise Fault('InternalError("mismatched layout")', frame.trail)
         made, offsets = bytearray(layout["size"]), layout.get("offsets", [])
@@ -1203,6 +1227,12 @@ class Run:
         raise Jump("return")
 
     def own_call(self, frame, e, part, cell):
+        """A call of a function, or of what builds a struct, which enters no body."""
+        made = constructed(frame.body, frame.body.rows, e, part)
+        if made is not None:
+            ty = {"Adt": [{"StructId": made[0]}, made[1]]}
+            self.laid(frame, ty, self.values(frame, part.get("args", [])), cell)
+            return
         self.called(frame, e, function_called(frame.body.infer, part), part.get("args", []), cell)
 
     def own_methodcall(self, frame, e, part, cell):

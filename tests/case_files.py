@@ -20,7 +20,7 @@ REFERENCE = "Rust Reference: "
 ENDS = {"exit", "report", "line"}
 ANSWERS = {"answer", "turns"}
 UNPLACED = {"written", "layout_error"}
-KEYS = {"name", "from", "words", "stdin", "stdout", "functions", "structs", "goal", "type", "copies", "blocks", "nesting", "bytes", *UNPLACED, *ENDS, *ANSWERS, *INPUTS}
+KEYS = {"name", "from", "words", "stdin", "stdout", "functions", "structs", "goal", "type", "copies", "borrows", "blocks", "nesting", "bytes", *UNPLACED, *ENDS, *ANSWERS, *INPUTS}
 
 
 def lines(texts):

@@ -28,6 +28,7 @@ from worlds import (
     literal,
     function,
     loop,
+    ref,
     static,
     struct_row,
     tuple_expr,
@@ -133,13 +134,13 @@ def limited(made, row):
 
 def source_world(row):
     """A world of one constant, whose body is written in Rust, as the functions are that it may call and the structs that it may
-    name, and whose run may have limits."""
-    copy_types = COPIES[row.get("copies", True)]
+    name, and whose run may have limits. The bases of indices may be borrowed."""
+    copy_types, borrows = COPIES[row.get("copies", True)], row.get("borrows", False)
     functions = [read_function(text) for text in row.get("functions", [])]
     structs = [read_struct(text) for text in row.get("structs", [])]
     ty = read_type(row["type"])
-    body_of_goal = body_row(read(row["source"]), ty, copy_types, functions, structs)
-    made = world_of_bodies([(body_of_goal, ty)], functions, copy_types, structs)
+    body_of_goal = body_row(read(row["source"]), ty, copy_types, functions, structs, borrows)
+    made = world_of_bodies([(body_of_goal, ty)], functions, copy_types, structs, borrows)
     if "goal" in row:
         names = [one.name for one in functions]
         made["goals"] = [goal({"FunctionId": names.index(row["goal"])})]
@@ -208,12 +209,19 @@ FORMS = {"if": nested_ifs, "loop": nested_loops, "block": nested_blocks, "tuple"
          "element": nested_elements}
 
 
+def borrowed_bases(exprs, types):
+    """The adjustments of the bases of indices, which are borrowed."""
+    bases = sorted(part["Index"]["base"] for part in exprs if "Index" in part)
+    return [[base, [{"kind": {"Borrow": {"Ref": "Not"}}, "target": ref(types[base])}]] for base in bases]
+
+
 def deep(row):
     """A world of one constant, in whose body so many expressions of a form stand, each in the next one, and whose run may have
-    limits."""
+    limits. The bases of indices may be borrowed."""
     form, depth = row["deep"]
     exprs, types = FORMS[form](depth)
-    inside = body(exprs, found={"expr_types": types, "copy_types": ALL}, labels=["'a"] * depth)
+    steps = borrowed_bases(exprs, types) if row.get("borrows") else []
+    inside = body(exprs, found=filled(expr_types=types, expr_adjustments=steps, copy_types=ALL), labels=["'a"] * depth)
     layouts = [*LAYOUTS, *rows_with_parts(types, LAYOUTS)]
     made = world([goal({"ConstId": 0})], consts=[const(types[-1], body=0)], bodies=[inside], layouts=layouts)
     return json_of(limited(made, row))

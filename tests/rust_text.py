@@ -1,6 +1,6 @@
 """Reads bodies that are written in Rust: numbers, truth values, characters, names, operators, casts, blocks, `if`, loops, jumps,
-`let`, assignments, calls of functions by their names, method calls, tuples, arrays, structs, fields and indices. It reads functions, structs
-and types too.
+`let`, assignments, calls of functions by their names, method calls, tuples, arrays, structs, also by their constructors, fields and indices. It
+reads functions, structs and types too.
 
 A body is read as a tree of tuples, the first part of which says what it is:
 
@@ -13,6 +13,7 @@ A body is read as a tree of tuples, the first part of which says what it is:
     ("loop", body, label or None)
     ("leave", value or None, label or None)     ("again", label or None)        ("give_back", value or None)
     ("call", name, arguments)               ("method", receiver, name, arguments)
+    ("construct", name of a struct, arguments)
     ("field", operand, name)                ("index", operand, index)
     ("tuple", parts)                        ("array", elements)         ("repeat", operand, count)
     ("record", name, written fields, each with its value, base or None)
@@ -265,6 +266,8 @@ class Reader:
             return ("number", digits, suffix or None)
         if token[0].isupper() and self.next() == "{":
             return self.record(token)
+        if token[0].isupper() and self.next() == "(":
+            return ("construct", token, self.arguments())
         if token[0].isalpha() or token[0] == "_":
             return ("call", token, self.arguments()) if self.next() == "(" else ("path", token)
         raise NoBody(f"{token!r} stands where an expression is wanted")

@@ -9,7 +9,8 @@ no `break` leaves, are of type `!`, and become of the type that is asked for, wh
 A struct is told by its name in a body, and has its number in the world alone.
 
 A call of a function that returns `!` is one that inference marks as diverging. A method is found by its name alone. A cast to the
-type that its operand has already is a coercion. The target of a compound assignment is borrowed, as for a method of a trait.
+type that its operand has already is a coercion. The target of a compound assignment is borrowed, as for a method of a trait. The base of an
+index is borrowed likewise where that is asked for, as rust-analyzer's inference has it.
 
 A jump means what it means here: one without a label the innermost loop or labelled block, where Rust refuses the block. A
 `return` leaves the body, as it does in a function. Rust refuses it in a constant.
@@ -32,6 +33,7 @@ from worlds import (
     block,
     break_to,
     const,
+    constructor_of,
     continue_to,
     expr_pat,
     filled,
@@ -158,10 +160,10 @@ class Target:
 
 class Draft:
     """A body of this type that is made node by node, in the order in which its nodes have to stand. It may call these
-    functions, and name these structs."""
+    functions, and name these structs. The bases of its indices may be borrowed."""
 
-    def __init__(self, ty, functions=(), structs=()):
-        self.ty = ty
+    def __init__(self, ty, functions=(), structs=(), borrows=False):
+        self.ty, self.borrows, self.indexed = ty, borrows, {}
         self.structs = {one.name: one for one in structs}
         self.variant_res = []
         self.functions = {one.name: (place, one) for place, one in enumerate(functions) if not one.is_method()}
@@ -292,6 +294,7 @@ class Draft:
         place = self.expr(index, number)
         if isinstance(known(number), Unknown):
             same(number, "usize")
+        self.indexed[inside] = whole, "Not"
         return self.add({"Index": {"base": inside, "index": place}}, ty)
 
     def path(self, name, ty):
@@ -324,6 +327,15 @@ class Draft:
         place = self.called({"MethodCall": {"receiver": first, "args": others, "method_name": name}}, called, ty)
         self.method_res.append([place, {"function": number, "args": []}])
         return place
+
+    def construct(self, name, args, ty):
+        """A call of what builds a struct. Arguments that are one too many are of any type."""
+        types = [field for _, field in self.struct_named(name).fields]
+        callee = self.add(path(name), constructor_of(name))
+        self.value_res.append([callee, {"StructId": name}])
+        same(ty, name)
+        types += [Unknown() for _ in args[len(types) :]]
+        return self.add({"Call": {"callee": callee, "args": list(map(self.expr, args, types))}}, ty)
 
     def given(self, called, args):
         """The arguments of a call."""
@@ -373,11 +385,19 @@ class Draft:
             lhs = self.named_target(target[1], inside)
             return self.add(assignment(lhs, self.expr(assigned, inside)), ty)
         lhs = self.expr(target, inside)
+        self.index_mutably(lhs)
         rhs = self.expr(assigned, Unknown(is_integer=True) if op in SHIFTS else inside)
         if op is None:
             return self.add(assignment(self.add_pat(expr_pat(lhs), inside), rhs), ty)
         self.borrowed.append((lhs, inside))
         return self.add({"BinaryOp": {"lhs": lhs, "rhs": rhs, "op": {"Assignment": {"op": op}}}}, ty)
+
+    def index_mutably(self, target):
+        """Notes that the bases of the indices on the way to a place are borrowed to be written."""
+        while (form := next(iter(self.exprs[target]))) in ("Field", "Index"):
+            target = self.exprs[target][form]["expr" if form == "Field" else "base"]
+            if form == "Index":
+                self.indexed[target] = self.indexed[target][0], "Mut"
 
     def branch(self, condition, first, second, ty):
         test = self.expr(condition, "bool")
@@ -458,9 +478,11 @@ class Draft:
 
     def adjustments(self):
         """The expressions whose value is adjusted, each with the step: from `!` to the type that is asked for, or to a reference."""
-        steps = {place: {"kind": "NeverToAny", "target": settled(ty)} for place, ty in self.endless if settled(ty) != NEVER}
-        for place, ty in self.borrowed:
-            steps[place] = {"kind": {"Borrow": {"Ref": "Mut"}}, "target": ref(settled(ty), "Mut")}
+        borrowed = [(place, ty, "Mut") for place, ty in self.borrowed]
+        if self.borrows:
+            borrowed += [(place, ty, mutability) for place, (ty, mutability) in self.indexed.items()]
+        steps = {place: {"kind": {"Borrow": {"Ref": mutability}}, "target": ref(settled(ty), mutability)} for place, ty, mutability in borrowed}
+        steps |= {place: {"kind": "NeverToAny", "target": settled(ty)} for place, ty in self.endless if settled(ty) != NEVER}
         return [[place, [steps[place]]] for place in sorted(steps)]
 
     def statement(self, form, *parts):
@@ -508,17 +530,17 @@ def types_in(row):
     return types + [step["target"] for _, steps in found.get("expr_adjustments", []) for step in steps]
 
 
-def body_row(tree, ty, copy_types=SCALARS, functions=(), structs=()):
-    """The row of a body that is a tree, at a type, with the types that are listed as `Copy`, the functions that it may call, and the
-    structs that it may name."""
-    draft = Draft(ty, functions, structs)
+def body_row(tree, ty, copy_types=SCALARS, functions=(), structs=(), borrows=False):
+    """The row of a body that is a tree, at a type, with the types that are listed as `Copy`, the functions that it may call, the
+    structs that it may name, and whether the bases of its indices are borrowed."""
+    draft = Draft(ty, functions, structs, borrows)
     draft.expr(tree, ty)
     return draft.row(copy_types)
 
 
-def row_of_function(called, copy_types, functions, structs):
+def row_of_function(called, copy_types, functions, structs, borrows=False):
     """The row of a function's body."""
-    draft = Draft(called.ret, functions, structs)
+    draft = Draft(called.ret, functions, structs, borrows)
     for name, ty in called.params:
         draft.param(name, ty)
     draft.expr(called.tree, called.ret)
@@ -532,12 +554,12 @@ def numbered(tree, numbers):
     return [numbered(part, numbers) for part in tree] if isinstance(tree, list) else tree
 
 
-def world_of_bodies(bodies, functions=(), copy_types=SCALARS, structs=()):
+def world_of_bodies(bodies, functions=(), copy_types=SCALARS, structs=(), borrows=False):
     """An input in which each of these bodies, which stand with their types, is a constant and a goal. The bodies of
-    the functions stand behind them. Where all types are listed as `Copy`, those with parts are too."""
+    the functions stand behind them, and the bases of indices in these may be borrowed. Where all types are listed as `Copy`, those with parts are too."""
     consts = [const(settled(ty), name="GOAL", body=place) for place, (_, ty) in enumerate(bodies)]
     goals = [goal({"ConstId": place}) for place in range(len(bodies))]
-    rows = [row for row, _ in bodies] + [row_of_function(one, copy_types, functions, structs) for one in functions]
+    rows = [row for row, _ in bodies] + [row_of_function(one, copy_types, functions, structs, borrows) for one in functions]
     called = [
         function([settled(ty) for _, ty in one.params], settled(one.ret), name=one.name, body=len(bodies) + place)
         for place, one in enumerate(functions)

@@ -86,6 +86,11 @@ def fn_def(number, *args):
     return {"FnDef": [{"FunctionId": number}, list(args)]}
 
 
+def constructor_of(number, *args):
+    """The type of the name of what builds a struct."""
+    return {"FnDef": [{"StructId": number}, list(args)]}
+
+
 def fn_pointer(*params, ret=UNIT):
     return {"FnPtr": [list(params), ret]}
 
