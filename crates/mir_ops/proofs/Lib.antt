@@ -1,5 +1,4 @@
 pub mod Computed
 pub mod Digits
-pub mod Shifting
 pub mod SignedWords
 pub mod UnsignedWords
