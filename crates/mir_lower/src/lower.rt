@@ -41,21 +41,21 @@ use body_forms::{
 };
 use either::Either;
 use mir::{
-    AggregateKind, BinOp, Interner, LocalId, MirLowerError, MirSpan, Operand, OperandKind, Place,
-    PlaceElem, Rvalue,
+    AggregateKind, BinOp, LocalId, MirLowerError, MirSpan, Operand, OperandKind, Place, PlaceElem,
+    Rvalue,
 };
 use mir_graph::Graph;
 use world::{ExprId, LabelId, List, LogicOp, PatId, Statement, TryClone, VariantId};
 
 /// An expression as an operand: a literal as it stands, and any other by its place.
 #[cycle(lower)]
-pub(crate) fn lower_operand<I: Interner>(
+pub(crate) fn lower_operand(
     context: &Context<'_>,
-    graph: &mut Graph<I>,
+    graph: &mut Graph,
     e: ExprId,
 ) -> Result<Operand, MirLowerError>
-    requires { IsReadyPart (source_of context.now) (shape I.projections graph.old) e.0 }
-    ensures lowered { IfOk result (λ operand. LowersOperand (source_of context.now) (shape I.projections graph.old) (shape I.projections graph.new) e.0 operand.kind) }
+    requires { IsReadyPart (source_of context.now) (shape graph.old) e.0 }
+    ensures lowered { IfOk result (λ operand. LowersOperand (source_of context.now) (shape graph.old) (shape graph.new) e.0 operand.kind) }
     ensures built { OnOk result (IsBuilt (source_of context.now) e.0) }
     ensures refused { IfErr result (RefusesAt (source_of context.now) e.0) }
 {
@@ -70,13 +70,9 @@ pub(crate) fn lower_operand<I: Interner>(
 
 /// An expression to a place: what a path names, a field or an element of its base's place, or a local of its own.
 #[cycle(lower)]
-fn lower_place<I: Interner>(
-    context: &Context<'_>,
-    graph: &mut Graph<I>,
-    e: ExprId,
-) -> Result<Place, MirLowerError>
-    requires { IsReadyPart (source_of context.now) (shape I.projections graph.old) e.0 }
-    ensures lowered { IfOk result (λ place. LowersPlace (source_of context.now) (shape I.projections graph.old) (shape I.projections graph.new) e.0 place) }
+fn lower_place(context: &Context<'_>, graph: &mut Graph, e: ExprId) -> Result<Place, MirLowerError>
+    requires { IsReadyPart (source_of context.now) (shape graph.old) e.0 }
+    ensures lowered { IfOk result (λ place. LowersPlace (source_of context.now) (shape graph.old) (shape graph.new) e.0 place) }
     ensures built { OnOk result (IsBuilt (source_of context.now) e.0) }
     ensures refused { IfErr result (RefusesAt (source_of context.now) e.0) }
 {
@@ -90,17 +86,17 @@ fn lower_place<I: Interner>(
 /// The place of a field or an element: its base's place, with one more element. The base, and the index of an element, are parts of the given expression, which is
 /// the field, or has it as its target.
 #[cycle(lower)]
-fn lower_field<I: Interner>(
+fn lower_field(
     context: &Context<'_>,
-    graph: &mut Graph<I>,
+    graph: &mut Graph,
     e: ExprId,
     base: ExprId,
     step: FieldStep,
 ) -> Result<Place, MirLowerError>
-    requires ready { ArePartsReady (source_of context.now) (shape I.projections graph.old) e.0 }
+    requires ready { ArePartsReady (source_of context.now) (shape graph.old) e.0 }
     requires parts { (child : ℕ) → Contains (field_parts base.0 (core_elem step)) child → Contains (parts_of (node (source_of context.now) e.0)) child }
     requires index { HasIndex (source_of context.now) (core_elem step) }
-    ensures lowered { IfOk result (λ place. LowersField (source_of context.now) (shape I.projections graph.old) (shape I.projections graph.new) base.0 (core_elem step) place) }
+    ensures lowered { IfOk result (λ place. LowersField (source_of context.now) (shape graph.old) (shape graph.new) base.0 (core_elem step) place) }
     ensures built { OnOk result (All (IsBuilt (source_of context.now)) (field_parts base.0 (core_elem step))) }
     ensures refused { IfErr result (RefusesAt (source_of context.now) e.0) }
 {
@@ -120,17 +116,17 @@ fn lower_field<I: Interner>(
 /// The index of an element, evaluated into a local of its own. The index is a part of the given expression, which is the index expression `at`, or has
 /// it as its target.
 #[cycle(lower)]
-fn lower_index<I: Interner>(
+fn lower_index(
     context: &Context<'_>,
-    graph: &mut Graph<I>,
+    graph: &mut Graph,
     e: ExprId,
     at: ExprId,
     index: ExprId,
 ) -> Result<LocalId, MirLowerError>
-    requires ready { ArePartsReady (source_of context.now) (shape I.projections graph.old) e.0 }
+    requires ready { ArePartsReady (source_of context.now) (shape graph.old) e.0 }
     requires part { Contains (parts_of (node (source_of context.now) e.0)) index.0 }
     requires index { index_of (source_of context.now) at.0 ≡ Some index.0 }
-    ensures lowered { IfOk result (λ local. LowersIndex (source_of context.now) (shape I.projections graph.old) (shape I.projections graph.new) at.0 index.0 local.0) }
+    ensures lowered { IfOk result (λ local. LowersIndex (source_of context.now) (shape graph.old) (shape graph.new) at.0 index.0 local.0) }
     ensures built { OnOk result (IsBuilt (source_of context.now) index.0) }
     ensures refused { IfErr result (RefusesAt (source_of context.now) e.0) }
 {
@@ -141,18 +137,18 @@ fn lower_index<I: Interner>(
 
 /// A field or an element evaluated into a local: the bytes of its place are copied.
 #[cycle(lower)]
-fn field_into<I: Interner>(
+fn field_into(
     context: &Context<'_>,
-    graph: &mut Graph<I>,
+    graph: &mut Graph,
     e: ExprId,
     base: ExprId,
     step: FieldStep,
     to: LocalId,
 ) -> Result<(), MirLowerError>
-    requires ready { IsReady (source_of context.now) (shape I.projections graph.old) e.0 }
+    requires ready { IsReady (source_of context.now) (shape graph.old) e.0 }
     requires form { node (source_of context.now) e.0 ≡ Some (expr.Field base.0 (core_elem step)) }
-    ensures lowered { OnOk result ((cell : Cell) → local_of (shape I.projections graph.old) cell ≡ Some to.0
-        → LowersOwn (source_of context.now) (shape I.projections graph.old) (shape I.projections graph.new) e.0 cell) }
+    ensures lowered { OnOk result ((cell : Cell) → local_of (shape graph.old) cell ≡ Some to.0
+        → LowersOwn (source_of context.now) (shape graph.old) (shape graph.new) e.0 cell) }
     ensures built { OnOk result (IsBuilt (source_of context.now) e.0) }
     ensures refused { IfErr result (RefusesAt (source_of context.now) e.0) }
 {
@@ -162,14 +158,10 @@ fn field_into<I: Interner>(
 
 /// An expression that is no place goes into a local of its own, which is then its place.
 #[cycle(lower)]
-fn lower_temp<I: Interner>(
-    context: &Context<'_>,
-    graph: &mut Graph<I>,
-    e: ExprId,
-) -> Result<Place, MirLowerError>
-    requires ready { IsReadyPart (source_of context.now) (shape I.projections graph.old) e.0 }
+fn lower_temp(context: &Context<'_>, graph: &mut Graph, e: ExprId) -> Result<Place, MirLowerError>
+    requires ready { IsReadyPart (source_of context.now) (shape graph.old) e.0 }
     requires form { is_place (unadjusted (source_of context.now) e.0) ≡ false }
-    ensures lowered { IfOk result (λ place. LowersPlace (source_of context.now) (shape I.projections graph.old) (shape I.projections graph.new) e.0 place) }
+    ensures lowered { IfOk result (λ place. LowersPlace (source_of context.now) (shape graph.old) (shape graph.new) e.0 place) }
     ensures built { OnOk result (IsBuilt (source_of context.now) e.0) }
     ensures refused { IfErr result (RefusesAt (source_of context.now) e.0) }
 {
@@ -180,16 +172,16 @@ fn lower_temp<I: Interner>(
 
 /// An expression evaluated into a local. What is adjusted by `NeverToAny` goes into a local of its own, and the given one isn't written.
 #[cycle(lower)]
-pub(crate) fn lower_into<I: Interner>(
+pub(crate) fn lower_into(
     context: &Context<'_>,
-    graph: &mut Graph<I>,
+    graph: &mut Graph,
     e: ExprId,
     to: LocalId,
 ) -> Result<(), MirLowerError>
-    requires ready { IsReady (source_of context.now) (shape I.projections graph.old) e.0 }
-    requires placed { IsPlaced (shape I.projections graph.old) to.0 }
-    ensures lowered { OnOk result ((cell : Cell) → local_of (shape I.projections graph.old) cell ≡ Some to.0
-        → LowersInto (source_of context.now) (shape I.projections graph.old) (shape I.projections graph.new) e.0 cell) }
+    requires ready { IsReady (source_of context.now) (shape graph.old) e.0 }
+    requires placed { IsPlaced (shape graph.old) to.0 }
+    ensures lowered { OnOk result ((cell : Cell) → local_of (shape graph.old) cell ≡ Some to.0
+        → LowersInto (source_of context.now) (shape graph.old) (shape graph.new) e.0 cell) }
     ensures built { OnOk result (IsBuilt (source_of context.now) e.0) }
     ensures refused { IfErr result (RefusesAt (source_of context.now) e.0) }
 {
@@ -203,16 +195,16 @@ pub(crate) fn lower_into<I: Interner>(
 
 /// An expression itself evaluated into a local, as it is before its value is adjusted.
 #[cycle(lower)]
-fn lower_own<I: Interner>(
+fn lower_own(
     context: &Context<'_>,
-    graph: &mut Graph<I>,
+    graph: &mut Graph,
     e: ExprId,
     to: LocalId,
 ) -> Result<(), MirLowerError>
-    requires ready { IsReady (source_of context.now) (shape I.projections graph.old) e.0 }
-    requires placed { IsPlaced (shape I.projections graph.old) to.0 }
-    ensures lowered { OnOk result ((cell : Cell) → local_of (shape I.projections graph.old) cell ≡ Some to.0
-        → LowersOwn (source_of context.now) (shape I.projections graph.old) (shape I.projections graph.new) e.0 cell) }
+    requires ready { IsReady (source_of context.now) (shape graph.old) e.0 }
+    requires placed { IsPlaced (shape graph.old) to.0 }
+    ensures lowered { OnOk result ((cell : Cell) → local_of (shape graph.old) cell ≡ Some to.0
+        → LowersOwn (source_of context.now) (shape graph.old) (shape graph.new) e.0 cell) }
     ensures built { OnOk result (IsBuilt (source_of context.now) e.0) }
     ensures refused { IfErr result (RefusesAt (source_of context.now) e.0) }
 {
@@ -265,18 +257,18 @@ fn lower_own<I: Interner>(
 
 /// An operation on one operand: the operand, and then the operation.
 #[cycle(lower)]
-fn lower_single<I: Interner>(
+fn lower_single(
     context: &Context<'_>,
-    graph: &mut Graph<I>,
+    graph: &mut Graph,
     e: ExprId,
     single: Single,
     operand: ExprId,
     to: LocalId,
 ) -> Result<(), MirLowerError>
-    requires ready { IsReady (source_of context.now) (shape I.projections graph.old) e.0 }
+    requires ready { IsReady (source_of context.now) (shape graph.old) e.0 }
     requires form { node (source_of context.now) e.0 ≡ Some (expr.Strict (single_operation single) (operand.0 ∷ [])) }
-    ensures lowered { OnOk result ((cell : Cell) → local_of (shape I.projections graph.old) cell ≡ Some to.0
-        → LowersOwn (source_of context.now) (shape I.projections graph.old) (shape I.projections graph.new) e.0 cell) }
+    ensures lowered { OnOk result ((cell : Cell) → local_of (shape graph.old) cell ≡ Some to.0
+        → LowersOwn (source_of context.now) (shape graph.old) (shape graph.new) e.0 cell) }
     ensures built { OnOk result (IsBuilt (source_of context.now) e.0) }
     ensures refused { IfErr result (RefusesAt (source_of context.now) e.0) }
 {
@@ -287,18 +279,18 @@ fn lower_single<I: Interner>(
 
 /// A tuple or an array: the operands of its parts from left to right, and then the aggregate of all.
 #[cycle(lower)]
-fn lower_aggregate<I: Interner>(
+fn lower_aggregate(
     context: &Context<'_>,
-    graph: &mut Graph<I>,
+    graph: &mut Graph,
     e: ExprId,
     several: Several,
     parts: &[ExprId],
     to: LocalId,
 ) -> Result<(), MirLowerError>
-    requires ready { IsReady (source_of context.now) (shape I.projections graph.old) e.0 }
+    requires ready { IsReady (source_of context.now) (shape graph.old) e.0 }
     requires form { node (source_of context.now) e.0 ≡ Some (expr.Strict (several_operation several) (expr_numbers parts.now)) }
-    ensures lowered { OnOk result ((cell : Cell) → local_of (shape I.projections graph.old) cell ≡ Some to.0
-        → LowersOwn (source_of context.now) (shape I.projections graph.old) (shape I.projections graph.new) e.0 cell) }
+    ensures lowered { OnOk result ((cell : Cell) → local_of (shape graph.old) cell ≡ Some to.0
+        → LowersOwn (source_of context.now) (shape graph.old) (shape graph.new) e.0 cell) }
     ensures built { OnOk result (IsBuilt (source_of context.now) e.0) }
     ensures refused { IfErr result (RefusesAt (source_of context.now) e.0) }
 {
@@ -314,18 +306,18 @@ fn lower_aggregate<I: Interner>(
 
 /// A struct: the operands of its fields in the order in which they are written or passed to its constructor, and then the struct of all.
 #[cycle(lower)]
-fn lower_struct<I: Interner>(
+fn lower_struct(
     context: &Context<'_>,
-    graph: &mut Graph<I>,
+    graph: &mut Graph,
     e: ExprId,
     value: StructValue<'_>,
     to: LocalId,
 ) -> Result<(), MirLowerError>
-    requires ready { IsReady (source_of context.now) (shape I.projections graph.old) e.0 }
+    requires ready { IsReady (source_of context.now) (shape graph.old) e.0 }
     requires form { node (source_of context.now) e.0 ≡ core_form (Struct value) }
     requires given { IsSome (places_given value) }
-    ensures lowered { OnOk result ((cell : Cell) → local_of (shape I.projections graph.old) cell ≡ Some to.0
-        → LowersOwn (source_of context.now) (shape I.projections graph.old) (shape I.projections graph.new) e.0 cell) }
+    ensures lowered { OnOk result ((cell : Cell) → local_of (shape graph.old) cell ≡ Some to.0
+        → LowersOwn (source_of context.now) (shape graph.old) (shape graph.new) e.0 cell) }
     ensures built { OnOk result (IsBuilt (source_of context.now) e.0) }
     ensures refused { IfErr result (RefusesAt (source_of context.now) e.0) }
 {
@@ -337,19 +329,19 @@ fn lower_struct<I: Interner>(
 
 /// A struct with a base: the base's place, the operands that are written, and then the struct of these and of fields of the base.
 #[cycle(lower)]
-fn lower_update<I: Interner>(
+fn lower_update(
     context: &Context<'_>,
-    graph: &mut Graph<I>,
+    graph: &mut Graph,
     e: ExprId,
     literal: StructLiteral<'_>,
     base: ExprId,
     to: LocalId,
 ) -> Result<(), MirLowerError>
-    requires ready { IsReady (source_of context.now) (shape I.projections graph.old) e.0 }
+    requires ready { IsReady (source_of context.now) (shape graph.old) e.0 }
     requires form { node (source_of context.now) e.0 ≡ core_form (Update literal base) }
     requires given { IsSome (literal_sources literal) }
-    ensures lowered { OnOk result ((cell : Cell) → local_of (shape I.projections graph.old) cell ≡ Some to.0
-        → LowersOwn (source_of context.now) (shape I.projections graph.old) (shape I.projections graph.new) e.0 cell) }
+    ensures lowered { OnOk result ((cell : Cell) → local_of (shape graph.old) cell ≡ Some to.0
+        → LowersOwn (source_of context.now) (shape graph.old) (shape graph.new) e.0 cell) }
     ensures built { OnOk result (IsBuilt (source_of context.now) e.0) }
     ensures refused { IfErr result (RefusesAt (source_of context.now) e.0) }
 {
@@ -370,19 +362,19 @@ fn lower_update<I: Interner>(
 
 /// An operator on two operands: the operands from left to right, and then the operation.
 #[cycle(lower)]
-fn lower_binary<I: Interner>(
+fn lower_binary(
     context: &Context<'_>,
-    graph: &mut Graph<I>,
+    graph: &mut Graph,
     e: ExprId,
     op: BinOp,
     lhs: ExprId,
     rhs: ExprId,
     to: LocalId,
 ) -> Result<(), MirLowerError>
-    requires ready { IsReady (source_of context.now) (shape I.projections graph.old) e.0 }
+    requires ready { IsReady (source_of context.now) (shape graph.old) e.0 }
     requires form { node (source_of context.now) e.0 ≡ Some (expr.Strict (Combine op) (lhs.0 ∷ rhs.0 ∷ [])) }
-    ensures lowered { OnOk result ((cell : Cell) → local_of (shape I.projections graph.old) cell ≡ Some to.0
-        → LowersOwn (source_of context.now) (shape I.projections graph.old) (shape I.projections graph.new) e.0 cell) }
+    ensures lowered { OnOk result ((cell : Cell) → local_of (shape graph.old) cell ≡ Some to.0
+        → LowersOwn (source_of context.now) (shape graph.old) (shape graph.new) e.0 cell) }
     ensures built { OnOk result (IsBuilt (source_of context.now) e.0) }
     ensures refused { IfErr result (RefusesAt (source_of context.now) e.0) }
 {
@@ -398,20 +390,20 @@ fn lower_binary<I: Interner>(
 
 /// `&&` or `||`: the left operand, a test of it, and then it is the value where it decides, and else the right operand.
 #[cycle(lower)]
-fn lower_logic<I: Interner>(
+fn lower_logic(
     context: &Context<'_>,
-    graph: &mut Graph<I>,
+    graph: &mut Graph,
     e: ExprId,
     op: LogicOp,
     lhs: ExprId,
     rhs: ExprId,
     to: LocalId,
 ) -> Result<(), MirLowerError>
-    requires ready { IsReady (source_of context.now) (shape I.projections graph.old) e.0 }
+    requires ready { IsReady (source_of context.now) (shape graph.old) e.0 }
     requires form { node (source_of context.now) e.0 ≡ Some (expr.Logic op lhs.0 rhs.0) }
-    requires placed { IsPlaced (shape I.projections graph.old) to.0 }
-    ensures lowered { OnOk result ((cell : Cell) → local_of (shape I.projections graph.old) cell ≡ Some to.0
-        → LowersOwn (source_of context.now) (shape I.projections graph.old) (shape I.projections graph.new) e.0 cell) }
+    requires placed { IsPlaced (shape graph.old) to.0 }
+    ensures lowered { OnOk result ((cell : Cell) → local_of (shape graph.old) cell ≡ Some to.0
+        → LowersOwn (source_of context.now) (shape graph.old) (shape graph.new) e.0 cell) }
     ensures built { OnOk result (IsBuilt (source_of context.now) e.0) }
     ensures refused { IfErr result (RefusesAt (source_of context.now) e.0) }
 {
@@ -427,20 +419,20 @@ fn lower_logic<I: Interner>(
 
 /// An `if`: its condition, a test of it, and then a branch.
 #[cycle(lower)]
-fn lower_if<I: Interner>(
+fn lower_if(
     context: &Context<'_>,
-    graph: &mut Graph<I>,
+    graph: &mut Graph,
     e: ExprId,
     condition: ExprId,
     then_branch: ExprId,
     else_branch: Option<ExprId>,
     to: LocalId,
 ) -> Result<(), MirLowerError>
-    requires ready { IsReady (source_of context.now) (shape I.projections graph.old) e.0 }
+    requires ready { IsReady (source_of context.now) (shape graph.old) e.0 }
     requires form { node (source_of context.now) e.0 ≡ Some (expr.If condition.0 then_branch.0 else_branch) }
-    requires placed { IsPlaced (shape I.projections graph.old) to.0 }
-    ensures lowered { OnOk result ((cell : Cell) → local_of (shape I.projections graph.old) cell ≡ Some to.0
-        → LowersOwn (source_of context.now) (shape I.projections graph.old) (shape I.projections graph.new) e.0 cell) }
+    requires placed { IsPlaced (shape graph.old) to.0 }
+    ensures lowered { OnOk result ((cell : Cell) → local_of (shape graph.old) cell ≡ Some to.0
+        → LowersOwn (source_of context.now) (shape graph.old) (shape graph.new) e.0 cell) }
     ensures built { OnOk result (IsBuilt (source_of context.now) e.0) }
     ensures refused { IfErr result (RefusesAt (source_of context.now) e.0) }
 {
@@ -456,15 +448,15 @@ fn lower_if<I: Interner>(
 /// The place that an assignment writes to: the local that a path names, or the place of an expression. An expression that names no
 /// place has none but a local of its own, which isn't assigned.
 #[cycle(lower)]
-fn lower_assignee<I: Interner>(
+fn lower_assignee(
     context: &Context<'_>,
-    graph: &mut Graph<I>,
+    graph: &mut Graph,
     e: ExprId,
     to: Assignee,
 ) -> Result<Place, MirLowerError>
-    requires ready { ArePartsReady (source_of context.now) (shape I.projections graph.old) e.0 }
+    requires ready { ArePartsReady (source_of context.now) (shape graph.old) e.0 }
     requires form { (value : ℕ) × (node (source_of context.now) e.0 ≡ Some (expr.Assign (core_assignee to) value)) }
-    ensures lowered { IfOk result (λ place. LowersAssignee (source_of context.now) (shape I.projections graph.old) (shape I.projections graph.new) (core_assignee to) place) }
+    ensures lowered { IfOk result (λ place. LowersAssignee (source_of context.now) (shape graph.old) (shape graph.new) (core_assignee to) place) }
     ensures built { OnOk result (IsBuiltAssignee (source_of context.now) (core_assignee to)) }
     ensures parts { OnOk result (All (IsBuilt (source_of context.now)) (assignee_parts (core_assignee to))) }
     ensures refused { IfErr result (RefusesAt (source_of context.now) e.0) }
@@ -484,16 +476,16 @@ fn lower_assignee<I: Interner>(
 /// An assignment: the value's place, that of the target, and then the value's bytes are copied there. The assignment itself is `()`,
 /// of which nothing is written.
 #[cycle(lower)]
-fn lower_assignment<I: Interner>(
+fn lower_assignment(
     context: &Context<'_>,
-    graph: &mut Graph<I>,
+    graph: &mut Graph,
     e: ExprId,
     to: Assignee,
     value: ExprId,
 ) -> Result<(), MirLowerError>
-    requires ready { IsReady (source_of context.now) (shape I.projections graph.old) e.0 }
+    requires ready { IsReady (source_of context.now) (shape graph.old) e.0 }
     requires form { node (source_of context.now) e.0 ≡ Some (expr.Assign (core_assignee to) value.0) }
-    ensures lowered { OnOk result ((cell : Cell) → LowersOwn (source_of context.now) (shape I.projections graph.old) (shape I.projections graph.new) e.0 cell) }
+    ensures lowered { OnOk result ((cell : Cell) → LowersOwn (source_of context.now) (shape graph.old) (shape graph.new) e.0 cell) }
     ensures built { OnOk result (IsBuilt (source_of context.now) e.0) }
     ensures refused { IfErr result (RefusesAt (source_of context.now) e.0) }
 {
@@ -513,15 +505,15 @@ fn lower_assignment<I: Interner>(
 
 /// The place that a compound assignment reads and writes: the local that a path names, or a field's place.
 #[cycle(lower)]
-fn lower_assigned<I: Interner>(
+fn lower_assigned(
     context: &Context<'_>,
-    graph: &mut Graph<I>,
+    graph: &mut Graph,
     e: ExprId,
     to: Assigned,
 ) -> Result<Place, MirLowerError>
-    requires ready { ArePartsReady (source_of context.now) (shape I.projections graph.old) e.0 }
+    requires ready { ArePartsReady (source_of context.now) (shape graph.old) e.0 }
     requires form { (op : Operator) × (value : ℕ) × (node (source_of context.now) e.0 ≡ Some (expr.Compound op (core_assigned to) value)) }
-    ensures lowered { IfOk result (λ place. LowersAssigned (source_of context.now) (shape I.projections graph.old) (shape I.projections graph.new) (core_assigned to) place) }
+    ensures lowered { IfOk result (λ place. LowersAssigned (source_of context.now) (shape graph.old) (shape graph.new) (core_assigned to) place) }
     ensures built { OnOk result (IsBuiltAssigned (source_of context.now) (core_assigned to)) }
     ensures parts { OnOk result (All (IsBuilt (source_of context.now)) (assigned_parts (core_assigned to))) }
     ensures refused { IfErr result (RefusesAt (source_of context.now) e.0) }
@@ -535,17 +527,17 @@ fn lower_assigned<I: Interner>(
 /// A compound assignment: the target's place, the value's operand, and then the place is assigned what the operator makes of both.
 /// The assignment itself is `()`, of which nothing is written.
 #[cycle(lower)]
-fn lower_compound<I: Interner>(
+fn lower_compound(
     context: &Context<'_>,
-    graph: &mut Graph<I>,
+    graph: &mut Graph,
     e: ExprId,
     op: BinOp,
     to: Assigned,
     value: ExprId,
 ) -> Result<(), MirLowerError>
-    requires ready { IsReady (source_of context.now) (shape I.projections graph.old) e.0 }
+    requires ready { IsReady (source_of context.now) (shape graph.old) e.0 }
     requires form { node (source_of context.now) e.0 ≡ Some (expr.Compound op (core_assigned to) value.0) }
-    ensures lowered { OnOk result ((cell : Cell) → LowersOwn (source_of context.now) (shape I.projections graph.old) (shape I.projections graph.new) e.0 cell) }
+    ensures lowered { OnOk result ((cell : Cell) → LowersOwn (source_of context.now) (shape graph.old) (shape graph.new) e.0 cell) }
     ensures built { OnOk result (IsBuilt (source_of context.now) e.0) }
     ensures refused { IfErr result (RefusesAt (source_of context.now) e.0) }
 {
@@ -565,19 +557,19 @@ fn lower_compound<I: Interner>(
 
 /// A block: its statements, its tail, and then its scope is left.
 #[cycle(lower)]
-fn lower_block<I: Interner>(
+fn lower_block(
     context: &Context<'_>,
-    graph: &mut Graph<I>,
+    graph: &mut Graph,
     e: ExprId,
     statements: &List<Statement>,
     tail: Option<ExprId>,
     to: LocalId,
 ) -> Result<(), MirLowerError>
-    requires ready { IsReady (source_of context.now) (shape I.projections graph.old) e.0 }
+    requires ready { IsReady (source_of context.now) (shape graph.old) e.0 }
     requires form { node (source_of context.now) e.0 ≡ Some (expr.Block statements.now tail) }
-    requires placed { IsPlaced (shape I.projections graph.old) to.0 }
-    ensures lowered { OnOk result ((cell : Cell) → local_of (shape I.projections graph.old) cell ≡ Some to.0
-        → LowersOwn (source_of context.now) (shape I.projections graph.old) (shape I.projections graph.new) e.0 cell) }
+    requires placed { IsPlaced (shape graph.old) to.0 }
+    ensures lowered { OnOk result ((cell : Cell) → local_of (shape graph.old) cell ≡ Some to.0
+        → LowersOwn (source_of context.now) (shape graph.old) (shape graph.new) e.0 cell) }
     ensures built { OnOk result (IsBuilt (source_of context.now) e.0) }
     ensures refused { IfErr result (RefusesAt (source_of context.now) e.0) }
 {
@@ -590,20 +582,20 @@ fn lower_block<I: Interner>(
 
 /// A block with a label: as one without, between the two blocks that jumps to it lead to.
 #[cycle(lower)]
-fn lower_labelled<I: Interner>(
+fn lower_labelled(
     context: &Context<'_>,
-    graph: &mut Graph<I>,
+    graph: &mut Graph,
     e: ExprId,
     label: LabelId,
     statements: &List<Statement>,
     tail: Option<ExprId>,
     to: LocalId,
 ) -> Result<(), MirLowerError>
-    requires ready { IsReady (source_of context.now) (shape I.projections graph.old) e.0 }
+    requires ready { IsReady (source_of context.now) (shape graph.old) e.0 }
     requires form { node (source_of context.now) e.0 ≡ Some (expr.Labelled label statements.now tail) }
-    requires placed { IsPlaced (shape I.projections graph.old) to.0 }
-    ensures lowered { OnOk result ((cell : Cell) → local_of (shape I.projections graph.old) cell ≡ Some to.0
-        → LowersOwn (source_of context.now) (shape I.projections graph.old) (shape I.projections graph.new) e.0 cell) }
+    requires placed { IsPlaced (shape graph.old) to.0 }
+    ensures lowered { OnOk result ((cell : Cell) → local_of (shape graph.old) cell ≡ Some to.0
+        → LowersOwn (source_of context.now) (shape graph.old) (shape graph.new) e.0 cell) }
     ensures built { OnOk result (IsBuilt (source_of context.now) e.0) }
     ensures refused { IfErr result (RefusesAt (source_of context.now) e.0) }
 {
@@ -618,19 +610,19 @@ fn lower_labelled<I: Interner>(
 
 /// A loop: its body, whose scope is left at the end of each turn, and then the loop again.
 #[cycle(lower)]
-fn lower_loop<I: Interner>(
+fn lower_loop(
     context: &Context<'_>,
-    graph: &mut Graph<I>,
+    graph: &mut Graph,
     e: ExprId,
     label: Option<LabelId>,
     body: ExprId,
     to: LocalId,
 ) -> Result<(), MirLowerError>
-    requires ready { IsReady (source_of context.now) (shape I.projections graph.old) e.0 }
+    requires ready { IsReady (source_of context.now) (shape graph.old) e.0 }
     requires form { node (source_of context.now) e.0 ≡ Some (expr.Loop label body.0) }
-    requires placed { IsPlaced (shape I.projections graph.old) to.0 }
-    ensures lowered { OnOk result ((cell : Cell) → local_of (shape I.projections graph.old) cell ≡ Some to.0
-        → LowersOwn (source_of context.now) (shape I.projections graph.old) (shape I.projections graph.new) e.0 cell) }
+    requires placed { IsPlaced (shape graph.old) to.0 }
+    ensures lowered { OnOk result ((cell : Cell) → local_of (shape graph.old) cell ≡ Some to.0
+        → LowersOwn (source_of context.now) (shape graph.old) (shape graph.new) e.0 cell) }
     ensures built { OnOk result (IsBuilt (source_of context.now) e.0) }
     ensures refused { IfErr result (RefusesAt (source_of context.now) e.0) }
 {
@@ -644,16 +636,16 @@ fn lower_loop<I: Interner>(
 
 /// A `break`: its value, where it has one, goes where the value of the loop or labelled block goes that it ends.
 #[cycle(lower)]
-fn lower_break<I: Interner>(
+fn lower_break(
     context: &Context<'_>,
-    graph: &mut Graph<I>,
+    graph: &mut Graph,
     e: ExprId,
     label: Option<LabelId>,
     value: Option<ExprId>,
 ) -> Result<(), MirLowerError>
-    requires ready { IsReady (source_of context.now) (shape I.projections graph.old) e.0 }
+    requires ready { IsReady (source_of context.now) (shape graph.old) e.0 }
     requires form { node (source_of context.now) e.0 ≡ Some (expr.Break label value) }
-    ensures lowered { OnOk result ((cell : Cell) → LowersOwn (source_of context.now) (shape I.projections graph.old) (shape I.projections graph.new) e.0 cell) }
+    ensures lowered { OnOk result ((cell : Cell) → LowersOwn (source_of context.now) (shape graph.old) (shape graph.new) e.0 cell) }
     ensures built { OnOk result (IsBuilt (source_of context.now) e.0) }
     ensures refused { IfErr result (RefusesAt (source_of context.now) e.0) }
 {
@@ -665,15 +657,15 @@ fn lower_break<I: Interner>(
 
 /// A `return`: its value, where it has one, goes to the return slot, and then the body returns.
 #[cycle(lower)]
-fn lower_return<I: Interner>(
+fn lower_return(
     context: &Context<'_>,
-    graph: &mut Graph<I>,
+    graph: &mut Graph,
     e: ExprId,
     value: Option<ExprId>,
 ) -> Result<(), MirLowerError>
-    requires ready { IsReady (source_of context.now) (shape I.projections graph.old) e.0 }
+    requires ready { IsReady (source_of context.now) (shape graph.old) e.0 }
     requires form { node (source_of context.now) e.0 ≡ Some (expr.Return value) }
-    ensures lowered { OnOk result ((cell : Cell) → LowersOwn (source_of context.now) (shape I.projections graph.old) (shape I.projections graph.new) e.0 cell) }
+    ensures lowered { OnOk result ((cell : Cell) → LowersOwn (source_of context.now) (shape graph.old) (shape graph.new) e.0 cell) }
     ensures built { OnOk result (IsBuilt (source_of context.now) e.0) }
     ensures refused { IfErr result (RefusesAt (source_of context.now) e.0) }
 {
@@ -684,18 +676,18 @@ fn lower_return<I: Interner>(
 
 /// A method call: a call of the function that it is resolved to, whose first argument is the receiver.
 #[cycle(lower)]
-fn lower_method_call<I: Interner>(
+fn lower_method_call(
     context: &Context<'_>,
-    graph: &mut Graph<I>,
+    graph: &mut Graph,
     e: ExprId,
     receiver: ExprId,
     args: &[ExprId],
     to: LocalId,
 ) -> Result<(), MirLowerError>
-    requires ready { IsReady (source_of context.now) (shape I.projections graph.old) e.0 }
+    requires ready { IsReady (source_of context.now) (shape graph.old) e.0 }
     requires form { node (source_of context.now) e.0 ≡ Some (expr.Call None (receiver.0 ∷ expr_numbers args.now)) }
-    ensures lowered { OnOk result ((cell : Cell) → local_of (shape I.projections graph.old) cell ≡ Some to.0
-        → LowersOwn (source_of context.now) (shape I.projections graph.old) (shape I.projections graph.new) e.0 cell) }
+    ensures lowered { OnOk result ((cell : Cell) → local_of (shape graph.old) cell ≡ Some to.0
+        → LowersOwn (source_of context.now) (shape graph.old) (shape graph.new) e.0 cell) }
     ensures built { OnOk result (IsBuilt (source_of context.now) e.0) }
     ensures refused { IfErr result (RefusesAt (source_of context.now) e.0) }
 {
@@ -705,18 +697,18 @@ fn lower_method_call<I: Interner>(
 
 /// A call: the operand that names the callee, the arguments' operands from left to right, and then the call, which reads them all.
 #[cycle(lower)]
-fn lower_call<I: Interner>(
+fn lower_call(
     context: &Context<'_>,
-    graph: &mut Graph<I>,
+    graph: &mut Graph,
     e: ExprId,
     callee: Option<ExprId>,
     args: &[ExprId],
     to: LocalId,
 ) -> Result<(), MirLowerError>
-    requires ready { IsReady (source_of context.now) (shape I.projections graph.old) e.0 }
+    requires ready { IsReady (source_of context.now) (shape graph.old) e.0 }
     requires form { node (source_of context.now) e.0 ≡ Some (expr.Call (callee_number callee) (expr_numbers args.now)) }
-    ensures lowered { OnOk result ((cell : Cell) → local_of (shape I.projections graph.old) cell ≡ Some to.0
-        → LowersOwn (source_of context.now) (shape I.projections graph.old) (shape I.projections graph.new) e.0 cell) }
+    ensures lowered { OnOk result ((cell : Cell) → local_of (shape graph.old) cell ≡ Some to.0
+        → LowersOwn (source_of context.now) (shape graph.old) (shape graph.new) e.0 cell) }
     ensures built { OnOk result (IsBuilt (source_of context.now) e.0) }
     ensures refused { IfErr result (RefusesAt (source_of context.now) e.0) }
 {
@@ -729,15 +721,15 @@ fn lower_call<I: Interner>(
 /// The operands of a call's arguments, or of the parts of a tuple, an array or a struct, from left to right. They are parts of the given
 /// expression.
 #[cycle(lower)]
-fn lower_operands<I: Interner>(
+fn lower_operands(
     context: &Context<'_>,
-    graph: &mut Graph<I>,
+    graph: &mut Graph,
     e: ExprId,
     args: &[ExprId],
 ) -> Result<List<Operand>, MirLowerError>
-    requires ready { ArePartsReady (source_of context.now) (shape I.projections graph.old) e.0 }
+    requires ready { ArePartsReady (source_of context.now) (shape graph.old) e.0 }
     requires parts { All (Contains (parts_of (node (source_of context.now) e.0))) (expr_numbers args.now) }
-    ensures lowered { IfOk result (λ operands. LowersOperands (source_of context.now) (shape I.projections graph.old) (shape I.projections graph.new) (expr_numbers args.now) (map (λ operand. operand.kind) operands)) }
+    ensures lowered { IfOk result (λ operands. LowersOperands (source_of context.now) (shape graph.old) (shape graph.new) (expr_numbers args.now) (map (λ operand. operand.kind) operands)) }
     ensures many { IfOk result (λ operands. length operands ≡ length args.now) }
     ensures built { OnOk result (All (IsBuilt (source_of context.now)) (expr_numbers args.now)) }
     ensures refused { IfErr result (RefusesAt (source_of context.now) e.0) }
@@ -752,15 +744,15 @@ fn lower_operands<I: Interner>(
 
 /// The statements of a block.
 #[cycle(lower)]
-fn lower_statements<I: Interner>(
+fn lower_statements(
     context: &Context<'_>,
-    graph: &mut Graph<I>,
+    graph: &mut Graph,
     e: ExprId,
     statements: &[Statement],
 ) -> Result<(), MirLowerError>
-    requires ready { ArePartsReady (source_of context.now) (shape I.projections graph.old) e.0 }
+    requires ready { ArePartsReady (source_of context.now) (shape graph.old) e.0 }
     requires form { HasStatements (node (source_of context.now) e.0) statements.now }
-    ensures lowered { OnOk result (LowersStatements (source_of context.now) (shape I.projections graph.old) (shape I.projections graph.new) statements.now) }
+    ensures lowered { OnOk result (LowersStatements (source_of context.now) (shape graph.old) (shape graph.new) statements.now) }
     ensures built { OnOk result (All (IsBuiltThrough (source_of context.now)) statements.now) }
     ensures refused { IfErr result (RefusesAt (source_of context.now) e.0) }
 {
@@ -772,18 +764,18 @@ fn lower_statements<I: Interner>(
 
 /// An expression that may be left out: the tail of a block, or the second branch of an `if`.
 #[cycle(lower)]
-fn lower_tail<I: Interner>(
+fn lower_tail(
     context: &Context<'_>,
-    graph: &mut Graph<I>,
+    graph: &mut Graph,
     e: ExprId,
     tail: Option<ExprId>,
     to: LocalId,
 ) -> Result<(), MirLowerError>
-    requires ready { ArePartsReady (source_of context.now) (shape I.projections graph.old) e.0 }
+    requires ready { ArePartsReady (source_of context.now) (shape graph.old) e.0 }
     requires part { IfSome tail (λ one. Contains (parts_of (node (source_of context.now) e.0)) one.0) }
-    requires placed { IsPlaced (shape I.projections graph.old) to.0 }
-    ensures lowered { OnOk result ((cell : Cell) → local_of (shape I.projections graph.old) cell ≡ Some to.0
-        → LowersTail (source_of context.now) (shape I.projections graph.old) (shape I.projections graph.new) tail cell) }
+    requires placed { IsPlaced (shape graph.old) to.0 }
+    ensures lowered { OnOk result ((cell : Cell) → local_of (shape graph.old) cell ≡ Some to.0
+        → LowersTail (source_of context.now) (shape graph.old) (shape graph.new) tail cell) }
     ensures built { OnOk result (All (IsBuilt (source_of context.now)) (optional tail)) }
     ensures refused { IfErr result (RefusesAt (source_of context.now) e.0) }
 {
@@ -795,15 +787,15 @@ fn lower_tail<I: Interner>(
 
 /// A statement of a block.
 #[cycle(lower)]
-fn lower_statement<I: Interner>(
+fn lower_statement(
     context: &Context<'_>,
-    graph: &mut Graph<I>,
+    graph: &mut Graph,
     e: ExprId,
     statement: Statement,
 ) -> Result<(), MirLowerError>
-    requires ready { ArePartsReady (source_of context.now) (shape I.projections graph.old) e.0 }
+    requires ready { ArePartsReady (source_of context.now) (shape graph.old) e.0 }
     requires stands { IsStatementOf (source_of context.now) e.0 statement }
-    ensures lowered { OnOk result (LowersStatements (source_of context.now) (shape I.projections graph.old) (shape I.projections graph.new) (statement ∷ [])) }
+    ensures lowered { OnOk result (LowersStatements (source_of context.now) (shape graph.old) (shape graph.new) (statement ∷ [])) }
     ensures built { OnOk result (IsBuiltThrough (source_of context.now) statement) }
     ensures refused { IfErr result (RefusesAt (source_of context.now) e.0) }
 {
@@ -828,16 +820,16 @@ fn lower_statement<I: Interner>(
 
 /// A `let` with an initializer: the initializer's place, and then the name is bound.
 #[cycle(lower)]
-fn lower_let<I: Interner>(
+fn lower_let(
     context: &Context<'_>,
-    graph: &mut Graph<I>,
+    graph: &mut Graph,
     e: ExprId,
     pat: PatId,
     initializer: ExprId,
 ) -> Result<(), MirLowerError>
-    requires ready { ArePartsReady (source_of context.now) (shape I.projections graph.old) e.0 }
+    requires ready { ArePartsReady (source_of context.now) (shape graph.old) e.0 }
     requires stands { IsStatementOf (source_of context.now) e.0 (statement_kind.Let pat (Some initializer) None) }
-    ensures lowered { OnOk result (LowersStatements (source_of context.now) (shape I.projections graph.old) (shape I.projections graph.new) (statement_kind.Let pat (Some initializer) None ∷ [])) }
+    ensures lowered { OnOk result (LowersStatements (source_of context.now) (shape graph.old) (shape graph.new) (statement_kind.Let pat (Some initializer) None ∷ [])) }
     ensures built { OnOk result (IsBuiltThrough (source_of context.now) (statement_kind.Let pat (Some initializer) None)) }
     ensures refused { IfErr result (RefusesAt (source_of context.now) e.0) }
 {
@@ -848,16 +840,16 @@ fn lower_let<I: Interner>(
 
 /// An expression statement: its place, and then what came into use in it is left.
 #[cycle(lower)]
-fn lower_expr_statement<I: Interner>(
+fn lower_expr_statement(
     context: &Context<'_>,
-    graph: &mut Graph<I>,
+    graph: &mut Graph,
     e: ExprId,
     expr: ExprId,
     has_semi: bool,
 ) -> Result<(), MirLowerError>
-    requires ready { ArePartsReady (source_of context.now) (shape I.projections graph.old) e.0 }
+    requires ready { ArePartsReady (source_of context.now) (shape graph.old) e.0 }
     requires stands { IsStatementOf (source_of context.now) e.0 (statement_kind.Expr expr has_semi) }
-    ensures lowered { OnOk result (LowersStatements (source_of context.now) (shape I.projections graph.old) (shape I.projections graph.new) (statement_kind.Expr expr has_semi ∷ [])) }
+    ensures lowered { OnOk result (LowersStatements (source_of context.now) (shape graph.old) (shape graph.new) (statement_kind.Expr expr has_semi ∷ [])) }
     ensures built { OnOk result (IsBuiltThrough (source_of context.now) (statement_kind.Expr expr has_semi)) }
     ensures refused { IfErr result (RefusesAt (source_of context.now) e.0) }
 {
