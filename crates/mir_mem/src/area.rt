@@ -9,7 +9,7 @@ use crate::moves::move_bytes;
 use world::NoMemory;
 
 /// Whether an area has `size` bytes from an offset on.
-#[inline]
+#[inline(always)]
 fn has(area: &[u8], place: u64, size: u64) -> bool
     ensures { IsTrue result ↔ (place + size ≤ length area.now) }
 {
@@ -21,7 +21,7 @@ fn has(area: &[u8], place: u64, size: u64) -> bool
 
 /// The `size` bytes of an area from an offset on, if it has that many there.
 #[tactic(auto, unfolding(mir::specs::Areas::part_of))]
-#[inline]
+#[inline(always)]
 pub(crate) fn part_of(area: &[u8], place: u64, size: u64) -> Option<&[u8]>
     ensures { option_copied result ≡ part_of area.now place size }
 {
@@ -34,7 +34,7 @@ pub(crate) fn part_of(area: &[u8], place: u64, size: u64) -> Option<&[u8]>
 
 /// Writes bytes from an offset on, if the area has that many there; returns whether it has.
 #[tactic(auto, unfolding(mir::specs::Areas::with_part))]
-#[inline]
+#[inline(always)]
 pub(crate) fn write_part(area: &mut [u8], place: u64, bytes: &[u8]) -> bool
     ensures written { OnTrue result (with_part area.old place bytes.now ≡ Some area.new) }
     ensures refused { OnFalse result (with_part area.old place bytes.now ≡ None) }

@@ -34,7 +34,7 @@ impl FlatMemory {
 
     /// The bytes at an address, if they are in the memory.
     #[tactic(auto, unfolding(mir::specs::Areas::bytes_at, mir::specs::Areas::some_bytes_at))]
-    #[inline]
+    #[inline(always)]
     fn bytes_at(&self, addr: Address, size: u64) -> Option<&[u8]>
         ensures { option_copied result ≡ bytes_at (areas_of self.now) addr size }
     {
@@ -50,7 +50,7 @@ impl FlatMemory {
 
     /// Writes bytes to an address, if the memory has that many there; returns whether it has.
     #[tactic(auto, unfolding(mir::specs::Areas::with_bytes, mir::specs::Areas::with_some_bytes))]
-    #[inline]
+    #[inline(always)]
     fn put(&mut self, addr: Address, bytes: &[u8]) -> bool
         ensures written { OnTrue result (with_bytes (areas_of self.old) addr bytes.now ≡ Some (areas_of self.new)) }
         ensures refused { OnFalse result (with_bytes (areas_of self.old) addr bytes.now ≡ None) }
@@ -159,7 +159,7 @@ impl Memory for FlatMemory {
     }
 
     #[tactic(auto, unfolding(mir::specs::Areas::reading))]
-    #[inline]
+    #[inline(always)]
     fn read(&self, addr: Address, size: u64) -> Result<View<'_>, MemFault> {
         match self.bytes_at(addr, size) {
             Some(bytes) => Ok(View::of(bytes)),
@@ -168,7 +168,7 @@ impl Memory for FlatMemory {
     }
 
     #[tactic(auto, unfolding(mir::specs::Areas::after_write))]
-    #[inline]
+    #[inline(always)]
     fn write(&mut self, addr: Address, bytes: &[u8]) -> Result<(), MemFault> {
         if self.put(addr, bytes) {
             Ok(())
