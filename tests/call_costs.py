@@ -139,20 +139,37 @@ def array_length(ty):
     return None if memory is None or len(memory) > 16 else int.from_bytes(memory, "little")
 
 
-def is_zero(constant):
-    """Whether all bytes of a constant's value are 0."""
-    name, value = variant(constant)
-    return name == "Value" and not any(bytes.fromhex(value["memory"]))
+def at_args(tree, args):
+    """A type or what it holds, at generic arguments."""
+    if isinstance(tree, list):
+        return [at_args(part, args) for part in tree]
+    if not isinstance(tree, dict):
+        return tree
+    if "Alias" in tree:
+        raise Unknown("the type of an alias in a field")
+    if "Param" in tree:
+        return variant(args[tree["Param"]["index"]])[1]
+    return {name: at_args(part, args) for name, part in tree.items()}
 
 
-def height(ty):
-    """How many levels a value of a type has, by the types of its parts."""
+def parts_of(ty, structs):
+    """The types of the parts of a type's values: of a tuple, of an array that isn't empty, and of a struct."""
     name, part = variant(ty)
     if name == "Tuple":
-        return 1 + max(map(height, part), default=0)
-    if name == "Array" and not is_zero(part[1]):
-        return 1 + height(part[0])
-    return 1
+        return part
+    if name == "Array":
+        return [] if array_length(ty) == 0 else [part[0]]
+    made = struct_in(ty)
+    return [] if made is None else [at_args(row["ty"], made[1]) for row in structs[made[0]].get("fields", [])]
+
+
+def height(ty, structs, known=None):
+    """How many levels a value of a type has, by the types of its parts. Each type is gone through once."""
+    known = {} if known is None else known
+    text = json.dumps(ty, sort_keys=True)
+    if text not in known:
+        known[text] = 1 + max((height(part, structs, known) for part in parts_of(ty, structs)), default=0)
+    return known[text]
 
 
 # The table of operators.
@@ -822,7 +839,7 @@ class Run:
         except Fault as fault:
             return f"error eval {fault.shown()}"
         ty = self.type_of(body, RESULT)
-        if self.limits["nesting"] - 1 < height(ty):
+        if self.limits["nesting"] - 1 < height(ty, self.world.get("structs", [])):
             return "error eval StackOverflow"
         return f"value {self.shown_type(ty)} {value.hex() or '-'}"
 

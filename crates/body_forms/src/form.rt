@@ -272,7 +272,7 @@ fn struct_form<'a>(value: StructValue<'a>) -> Form<'a>
     }
 }
 
-/// The form of a call, by the struct whose constructor its callee is, if it is one: any other callee is a function.
+/// The form of a call, by the struct whose constructor its callee is, if it is one. With any other callee it is a call of a function, whether the callee is one or not.
 fn call_form<'a>(made: Option<StructAt<'a>>, callee: ExprId, args: &'a List<ExprId>) -> Form<'a>
     ensures { IsFormOf (record no_findings { constructed = λ from. option_map core_struct made.entry }) (whole.Call callee args.now) result }
 {

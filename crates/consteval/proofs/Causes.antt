@@ -1,5 +1,5 @@
 -- The causes of answers, over what is kept.
-use Rattle.std.proofs.Common.{◌≡◌, ℕ, ◌⊎◌, ⊎_elim, inl, inr, false, [], Result, Ok, Err, refl, sym, ap, ◌∙◌, subst, arith}
+use Rattle.std.proofs.Common.{◌≡◌, ◌-◌, ℕ, ◌⊎◌, ⊎_elim, inl, inr, false, [], Result, Ok, Err, refl, sym, ap, ◌∙◌, subst, arith}
 use Rattle.std.specs.Prelude.{Contains, IfOk}
 use Rattle.world.specs.declared.database.HirDatabase.{HirDatabase}
 use Rattle.world.specs.declared.limits.Limits.{Limits}
@@ -15,11 +15,11 @@ use Rattle.mir.specs.declared.errors.MirLowerError.{MirLowerError}
 use Rattle.mir.specs.declared.errors.MirLowerError.TheVariants as refusal
 use Rattle.mir.specs.Errors.{from_lower_error}
 use Rattle.mir.specs.Run.{begun}
-use Rattle.mir_eval.specs.Machine.{pointer_bytes}
+use Rattle.mir_eval.specs.Machine.{outcome_of, pointer_bytes}
 use Rattle.consteval.specs.Answers.{AnswersBody, AnswersKept, HasCause, NeverBegins, NeverLowered, RunsOut, RunsTo, carried}
 use Rattle.consteval.specs.Refusals.{RefusesBody}
 use Rattle.consteval.specs.Built.{is_unbuilt}
-use Rattle.consteval.specs.Kept.{Entry, IsLowered, IsSound, IsValueOf, Kept, Lowered, Value, Ran, RestsOn, Stays, program_of}
+use Rattle.consteval.specs.Kept.{Entry, IsLowered, IsSound, IsValueOf, Kept, Lowered, Value, Ran, RestsOn, Stays, program_of, run_of}
 use Rattle.consteval.proofs.Built.{built-without-args}
 use Rattle.consteval.proofs.Keeping.{contains-stays, kept-body-lowered}
 use Rattle.consteval.proofs.Right.{all-right-stay}
@@ -52,7 +52,7 @@ module _ (before after : Kept) (stays : Stays before after) where
         start = ran.start;
         began = ap (λ world. begun (program_of world limits ran.answers) body) stays.world ∙ ran.began;
         no_params = ran.no_params;
-        ended = ran.ended;
+        ended = ap (λ (world : HirDatabase). outcome_of world (limits.nesting - 1) body (run_of body ran.start limits.blocks).ending) stays.world ∙ ran.ended;
         entered = ran.entered;
       }
 

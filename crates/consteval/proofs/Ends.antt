@@ -1,9 +1,10 @@
 -- How a run of a lowered body ends, by what its source means.
-use Rattle.std.proofs.Common.{◌≡◌, ◌≢◌, ℕ, suc, ◌+◌, ◌-◌, ◌<◌, ◌≤◌, ◌⊎◌, ⊎_elim, inl, inr, List, [], Option, Some, None, Result, Ok, Err, refl, sym, ap, ◌∙◌, subst, arith}
+use Rattle.std.proofs.Common.{◌≡◌, ◌≢◌, ℕ, zero, suc, ◌+◌, ◌-◌, ◌<◌, ◌≤◌, ◌⊎◌, ⊎_elim, inl, inr, List, [], Option, Some, None, Result, Ok, Err, refl, sym, ap, ◌∙◌, subst, arith}
 use Rattle.std.specs.Prelude.{slice_get}
 use Rattle.std.proofs.lemmas.Bool.{cases_lt}
 use Rattle.types.specs.declared.ty.Const.{Const}
 use Rattle.types.specs.declared.ty.Ty.{Ty}
+use Rattle.world.specs.declared.database.HirDatabase.{HirDatabase}
 use Rattle.world.specs.declared.limits.Limits.{Limits}
 use Rattle.mir.specs.Areas.{first_areas}
 use Rattle.mir.specs.declared.answers.Query.{Query}
@@ -14,13 +15,14 @@ use Rattle.mir.specs.declared.errors.MirEvalError as error
 use Rattle.mir.specs.declared.errors.TrailEntry.{TrailEntry}
 use Rattle.mir.specs.Memory.{Memory}
 use Rattle.mir.specs.Run.{Program, Frame, Calling, Ending, Returned, Faulted, Asked, Ended, bad_read, levels_over}
-use Rattle.heights.specs.Heights.{height}
 use Rattle.mir_eval.specs.Machine.{on_levels, outcome_of, wrapped}
 use Rattle.mir_lower.specs.Callees.{Serves}
 use Rattle.mir_lower.specs.Simulates.{EndsOn, Simulates}
 use Rattle.mir_lower.specs.Stops.{IsCut, MakesSomeCall, StopsWithin, WasRefused}
 use Rattle.mir_lower.specs.Runs.{BreaksOff, EndsAfter, IsFault, IsFit, IsOutOfBlocks, IsReturned}
 use Rattle.source_meaning.specs.Ends.{Cost, cost_of, End, Go, Jumps, Faults, Stuck, More, Fault, Panic, Undefined, NoLayout, GoesOn, IsOver, JumpsNowhere}
+use Rattle.source_meaning.specs.Entering.{run_cost}
+use Rattle.source_meaning.specs.Heights.{height}
 use Rattle.source_meaning.specs.Meaning.{Gives, meaning_of}
 use Rattle.source_meaning.specs.Source.{Source, Store, node_type, root}
 use Rattle.consteval.specs.Answers.{EndsAtCall, EndsEvaluation, EndsFrame, GivesValue, CountsBlocks, IsWithinLimits, IsWithinRoom, constant_of, cost_at}
@@ -50,15 +52,15 @@ runs-under : (turns : ℕ) (ends : Ending → Type 0) (run : ℕ → Ended) → 
 runs-under turns ends run reaches blocks = ⊎_elim (λ less. inl (less, reaches.with_fewer blocks less)) (λ le. inr (runs-with turns ends run reaches blocks le)) (cases_lt blocks turns)
 
 -- what the bytes of a return slot are handed out as
-returned-outcome : (levels : ℕ) (body : MirBody) (slot : Local) (bytes : List ℕ) → slice_get body.locals 0 ≡ Some slot → outcome_of levels body (Returned bytes) ≡ Some (on_levels (height slot.ty) levels (Ok (constant_of slot.ty bytes)))
+returned-outcome : (world : HirDatabase) (levels : ℕ) (body : MirBody) (slot : Local) (bytes : List ℕ) → slice_get body.locals 0 ≡ Some slot → outcome_of world levels body (Returned bytes) ≡ Some (on_levels (height world slot.ty) levels (Ok (constant_of slot.ty bytes)))
 unfolding outcome_of
-returned-outcome levels body slot bytes there =
-    ap (λ (found : Option Local). Some (on_levels (elim found [ Some s ↦ height s.ty | None ↦ 0 ]) levels (elim found [ Some s ↦ Ok (constant_of s.ty bytes) | None ↦ Err (error.InFunction bad_read []) ]))) there
+returned-outcome world levels body slot bytes there =
+    ap (λ (found : Option Local). Some (on_levels (elim found [ Some s ↦ height world s.ty | None ↦ 0 ]) levels (elim found [ Some s ↦ Ok (constant_of s.ty bytes) | None ↦ Err (error.InFunction bad_read []) ]))) there
 
 -- a fault is handed out wrapped
-faulted-outcome : (levels : ℕ) (body : MirBody) (e : MirEvalError) (trail : List TrailEntry) → outcome_of levels body (Faulted e trail) ≡ Some (Err (wrapped e trail))
+faulted-outcome : (world : HirDatabase) (levels : ℕ) (body : MirBody) (e : MirEvalError) (trail : List TrailEntry) → outcome_of world levels body (Faulted e trail) ≡ Some (Err (wrapped e trail))
 unfolding outcome_of
-faulted-outcome levels body e trail = refl
+faulted-outcome world levels body e trail = refl
 
 -- the error in which a run ends where the meaning ends in a fault; where a body can't be entered for want of a layout, no run comes so far
 abbrev pub IsErrorOf : Fault → MirEvalError → Type 0
@@ -85,9 +87,9 @@ ends-in-error source (Undefined text) e turns run of breaks = subst (λ (f : Mir
 ends-in-error source NoLayout e turns run of breaks = absurd of
 
 -- a run that asks hands out nothing
-asked-outcome : (levels : ℕ) (body : MirBody) (q : Query) (frame : Frame) (memory : Memory) (call : Calling) → outcome_of levels body (Asked q frame memory call) ≡ None
+asked-outcome : (world : HirDatabase) (levels : ℕ) (body : MirBody) (q : Query) (frame : Frame) (memory : Memory) (call : Calling) → outcome_of world levels body (Asked q frame memory call) ≡ None
 unfolding outcome_of
-asked-outcome levels body q frame memory call = refl
+asked-outcome world levels body q frame memory call = refl
 
 -- what hands out nothing has no outcome
 nothing-handed-out : (outcome : Result Const MirEvalError) → ◌≡◌ {A = Option (Result Const MirEvalError)} None (Some outcome) → ⊥
@@ -133,26 +135,30 @@ module _ (source : Source) (kept : Kept) (limits : Limits) (turns : ℕ) (outcom
   FaultsWith e = (trail : List TrailEntry) × (outcome ≡ Err (error.InFunction e trail))
 
   -- what the end of the run is handed out as is the outcome
-  handed-out : (result : Result Const MirEvalError) → outcome_of Levels body (Run limits.blocks).ending ≡ Some result → outcome ≡ result
+  handed-out : (result : Result Const MirEvalError) → outcome_of kept.world Levels body (Run limits.blocks).ending ≡ Some result → outcome ≡ result
   handed-out result is = same-outcome outcome result (sym ran.ended ∙ is)
 
   -- a run out of blocks has that fault
   out-of-blocks : IsOutOfBlocks (Run limits.blocks) → FaultsWith error.ExecutionLimitExceeded
   out-of-blocks out =
-      (out.0, handed-out (Err (error.InFunction error.ExecutionLimitExceeded out.0)) (ap (λ (ended : Ended). outcome_of Levels body ended.ending) out.1 ∙ faulted-outcome Levels body error.ExecutionLimitExceeded out.0))
+      (out.0, handed-out (Err (error.InFunction error.ExecutionLimitExceeded out.0)) (ap (λ (ended : Ended). outcome_of kept.world Levels body ended.ending) out.1 ∙ faulted-outcome kept.world Levels body error.ExecutionLimitExceeded out.0))
 
   -- one that ends in a fault has that
   faulted : (fault : Fault) (e : MirEvalError) → IsErrorOf fault e → IsFault e (Run limits.blocks).ending → FaultsWith e
   faulted fault e of is =
-      (is.0, handed-out (Err (error.InFunction e is.0)) (ap (outcome_of Levels body) is.1 ∙ faulted-outcome Levels body e is.0 ∙ ap (λ f. Some (Err f)) (wrapped-fault fault e is.0 of)))
+      (is.0, handed-out (Err (error.InFunction e is.0)) (ap (outcome_of kept.world Levels body) is.1 ∙ faulted-outcome kept.world Levels body e is.0 ∙ ap (λ f. Some (Err f)) (wrapped-fault fault e is.0 of)))
 
   -- how many levels the value takes
   abbrev Height : ℕ
-  Height = height simulates.slot.0.ty
+  Height = height kept.world simulates.slot.0.ty
+
+  -- a run of the source takes a level beside these
+  high : (run_cost source).nesting ≡ suc Height
+  high = run-is-high source simulates.slot.0.ty simulates.slot.2 ∙ ap (λ (world : HirDatabase). suc (height world simulates.slot.0.ty)) (sym (serves zero).world)
 
   -- and one that returns bytes has the value of these, where there are levels for it
   returned : (bytes : List ℕ) → IsReturned bytes (Run limits.blocks).ending → outcome ≡ on_levels Height Levels (Ok (constant_of simulates.slot.0.ty bytes))
-  returned bytes is = handed-out (on_levels Height Levels (Ok (constant_of simulates.slot.0.ty bytes))) (ap (outcome_of Levels body) is ∙ returned-outcome Levels body simulates.slot.0 bytes simulates.slot.1)
+  returned bytes is = handed-out (on_levels Height Levels (Ok (constant_of simulates.slot.0.ty bytes))) (ap (outcome_of kept.world Levels body) is ∙ returned-outcome kept.world Levels body simulates.slot.0 bytes simulates.slot.1)
 
   -- what hands out a value hands out no fault
   no-fault : {A : Type 0} (konst : Const) (e : MirEvalError) → outcome ≡ Ok konst → FaultsWith e → A
@@ -170,13 +176,13 @@ module _ (source : Source) (kept : Kept) (limits : Limits) (turns : ℕ) (outcom
   cut-so : (fuel : ℕ) (e : MirEvalError) (trail : List TrailEntry) → (Run limits.blocks).ending ≡ Faulted e trail → CutsAt fuel e → (f : MirEvalError) × CutsAt fuel f × FaultsWith f
   cut-so fuel e trail is cut =
       let framed_cut = wrapped-cut source GoesBy (cost_at source fuel) e trail cut in
-      (e, cut, (trail, handed-out (Err (error.InFunction e trail)) (ap (outcome_of Levels body) is ∙ faulted-outcome Levels body e trail ∙ ap (λ w. Some (Err w)) framed_cut)))
+      (e, cut, (trail, handed-out (Err (error.InFunction e trail)) (ap (outcome_of kept.world Levels body) is ∙ faulted-outcome kept.world Levels body e trail ∙ ap (λ w. Some (Err w)) framed_cut)))
 
   -- an end at a call is a fault, since a callee isn't entered
   cut-faults : (fuel : ℕ) (ending : Ending) → (Run limits.blocks).ending ≡ ending → IsCut source GoesBy (levels_over []) (first_areas GoesBy.bytes) (cost_at source fuel) ending → (e : MirEvalError) × CutsAt fuel e × FaultsWith e
   cut-faults fuel (Returned bytes) is cut = absurd cut
   cut-faults fuel (Faulted e trail) is cut = ⊎_elim (λ was. cut-so fuel e trail is (inl (refused (cost_at source fuel) e was))) (λ lacks. cut-so fuel e trail is (inr lacks)) cut
-  cut-faults fuel (Asked q frame memory call) is cut = absurd (nothing-handed-out outcome (sym (ap (outcome_of Levels body) is ∙ asked-outcome Levels body q frame memory call) ∙ ran.ended))
+  cut-faults fuel (Asked q frame memory call) is cut = absurd (nothing-handed-out outcome (sym (ap (outcome_of kept.world Levels body) is ∙ asked-outcome kept.world Levels body q frame memory call) ∙ ran.ended))
 
   -- a run that stops at a call faults there, or is out of blocks before
   stops-at : (fuel : ℕ) → StopsAt fuel → ((limits.blocks < (cost_at source fuel).turns) × FaultsWith error.ExecutionLimitExceeded) ⊎ ((e : MirEvalError) × CutsAt fuel e × FaultsWith e)
@@ -265,8 +271,7 @@ module _ (source : Source) (kept : Kept) (limits : Limits) (turns : ℕ) (outcom
   too-deep value e h =
       let none = fault-on-levels Height Levels value e h in
       let left = none.0 in
-      let high = run-is-high source simulates.slot.0.ty simulates.slot.2 in
-      subst (EndsEvaluation source limits) (sym none.1) (overflowed source limits (omega arith))
+      subst (EndsEvaluation source limits) (sym none.1) (overflowed source limits (omega (arith, left, high)))
 
   -- a fault that the source means, as a frame's error
   frame-of : (fault : Fault) (e : MirEvalError) (cost : Cost) → IsErrorOf fault e → Gives source (Faults fault cost) → EndsFrame source limits e
@@ -337,11 +342,10 @@ module _ (source : Source) (kept : Kept) (limits : Limits) (turns : ℕ) (outcom
   completes-value ty bytes store cost typed gives within =
       let of_type : simulates.slot.0.ty ≡ ty = (let slot = simulates.slot.2 in cc) in
       let deep = value-nests source bytes store cost gives in
-      let high = run-is-high source simulates.slot.0.ty simulates.slot.2 in
       let room = within.room in
       let bound = room.nesting in
       returned bytes (runs-with cost.turns (IsReturned bytes) Run (within-goes-on (Go bytes store cost) gives.fuel gives.reached within) limits.blocks within.turns)
-      ∙ has-levels Height Levels (Ok (constant_of simulates.slot.0.ty bytes)) (omega arith)
+      ∙ has-levels Height Levels (Ok (constant_of simulates.slot.0.ty bytes)) (omega (arith, deep, high, bound))
       ∙ ap (λ t. Ok (constant_of t bytes)) of_type
 
   -- and so is a fault that has an error

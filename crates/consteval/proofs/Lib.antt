@@ -13,6 +13,7 @@ pub mod Faults
 pub mod Finding
 pub mod First
 pub mod Headline
+pub mod Heights
 pub mod Keeping
 pub mod Keys
 pub mod Nesting

@@ -8,7 +8,7 @@ use Rattle.source_meaning.specs.Ends.{Cost, cost_of, plus, End, Go, Jumps, Fault
 use Rattle.source_meaning.specs.Entering.{run_cost, value_height}
 use Rattle.source_meaning.specs.Meaning.{Gives, meaning_from, meaning_of}
 use Rattle.source_meaning.specs.Source.{Source, Store, node_type, root, zeroed}
-use Rattle.heights.specs.Heights.{height}
+use Rattle.source_meaning.specs.Heights.{height}
 use Rattle.types.specs.declared.ty.Ty.{Ty}
 
 -- a cost takes at least the nesting of what stands before it
@@ -30,9 +30,9 @@ unfolding run_cost
 run-nests source = omega arith
 
 -- and as many more as its value's type is high
-pub run-is-high : (source : Source) (ty : Ty) → node_type source (root source) ≡ Some ty → (run_cost source).nesting ≡ suc (height ty)
+pub run-is-high : (source : Source) (ty : Ty) → node_type source (root source) ≡ Some ty → (run_cost source).nesting ≡ suc (height source.world ty)
 unfolding run_cost
-run-is-high source ty typed = ap (λ t. suc (value_height t)) typed
+run-is-high source ty typed = ap (λ t. suc (value_height source.world t)) typed
 
 -- whatever fuel there is, a meaning nests by at least as many levels
 meaning-nests : (source : Source) (fuel : ℕ) → meaning_of source fuel ≢ Stuck → (run_cost source).nesting ≤ (cost_of (meaning_of source fuel)).nesting

@@ -124,9 +124,9 @@ module _ (kept : Kept) (def : DefWithBodyId) (body : MirBody) (limits : Limits) 
           began = began-so;
           no_params = started.no_params;
           ended =
-              ap (λ (ended : Ended). outcome_of (limits.nesting - 1) body ended.ending) same-end
-              ∙ sym (ap (λ (p : Program). outcome_of (p.nesting - 1) body (end_of position).ending) come.program)
-              ∙ sym (ap (λ (b : MirBody). outcome_of (position.frame.program.nesting - 1) b (end_of position).ending) come.first)
+              ap (λ (ended : Ended). outcome_of kept.world (limits.nesting - 1) body ended.ending) same-end
+              ∙ sym (ap (λ (p : Program). outcome_of p.world (p.nesting - 1) body (end_of position).ending) come.program)
+              ∙ sym (ap (λ (b : MirBody). outcome_of position.frame.program.world (position.frame.program.nesting - 1) b (end_of position).ending) come.first)
               ∙ handed_out;
           entered = counts ∙ sym (ap (λ (ended : Ended). limits.blocks - ended.left) same-end);
         };

@@ -121,7 +121,7 @@ pub record Ran (kept : Kept) (body : MirBody) (limits : Limits) (turns : ℕ) (o
   pub start : Frame × Memory
   pub began : begun (program_of kept.world limits answers) body ≡ Ok start
   pub no_params : body.param_locals ≡ []
-  pub ended : outcome_of (limits.nesting - 1) body (run_of body start limits.blocks).ending ≡ Some outcome
+  pub ended : outcome_of kept.world (limits.nesting - 1) body (run_of body start limits.blocks).ending ≡ Some outcome
   pub entered : turns ≡ limits.blocks - (run_of body start limits.blocks).left
 
 -- a value is what a run of a kept body of its definition returned, which was told answers that are right by what is kept

@@ -1,1 +1,3 @@
-pub mod Layers
+pub mod Known
+pub mod Law
+pub mod Rows

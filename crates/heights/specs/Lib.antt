@@ -1,1 +1,1 @@
-pub mod Heights
+pub mod Known

@@ -2,5 +2,6 @@
 #![tactic(auto)]
 
 mod heights;
+mod parts;
 
 pub use heights::is_within;

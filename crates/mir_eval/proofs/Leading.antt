@@ -1,6 +1,7 @@
 -- Where a run goes, by where a block or a call leads.
 use Rattle.std.proofs.Common.{◌≡◌, ℕ, zero, suc, ◌-◌, ◌<◌, ◌≤◌, ◌⊎◌, inl, inr, List, [], ◌∷◌, Option, Some, None, Result, Ok, Err, refl, sym, ap, ◌∙◌, subst, arith}
 use Rattle.std.specs.Prelude.{codes, slice_get, option_and_then, OnOk}
+use Rattle.world.specs.declared.database.HirDatabase.{HirDatabase}
 use Rattle.mir.specs.declared.body.Terminator.{Terminator}
 use Rattle.types.specs.declared.ty.Const.{Const}
 use Rattle.mir.specs.declared.body.MirBody.{MirBody}
@@ -27,20 +28,21 @@ unfolding outcome_of
 over-leads areas frame run e trail outcome is = inl (record { result = outcome; outcome = ap Some (sym is); state_is = refl })
 
 -- A body returned that none called. What was read for its value is the frame's.
-pub none-waits : (frame : Frame) (memory now : Memory) (left : ℕ) (Out : Type 0) (outcome : Result Const MirEvalError) (levels : ℕ) (body : MirBody) (cells : List Interval) →
-    frame.below ≡ [] → levels ≡ frame.program.nesting - 1 → body ≡ frame.body → cells ≡ frame.cells → now ≡ memory →
-    outcome_of levels body (returned (option_and_then (cell_bytes now) (slice_get cells 0))) ≡ Some outcome →
+pub none-waits : (frame : Frame) (memory now : Memory) (left : ℕ) (Out : Type 0) (outcome : Result Const MirEvalError) (world : HirDatabase) (levels : ℕ) (body : MirBody) (cells : List Interval) →
+    frame.below ≡ [] → world ≡ frame.program.world → levels ≡ frame.program.nesting - 1 → body ≡ frame.body → cells ≡ frame.cells → now ≡ memory →
+    outcome_of world levels body (returned (option_and_then (cell_bytes now) (slice_get cells 0))) ≡ Some outcome →
     LeadsTo frame left (after_return frame memory) (Over outcome left) ⊎ Out
 unfolding after_return first_body
-none-waits frame memory now left Out outcome levels body cells alone levelled bodied placed same is =
+none-waits frame memory now left Out outcome world levels body cells alone in_world levelled bodied placed same is =
     let ending : Ending = returned (option_and_then (cell_bytes memory) (slice_get frame.cells 0)) in
-    let read : outcome_of (frame.program.nesting - 1) frame.body ending ≡ Some outcome =
-    ap (λ (n : ℕ). outcome_of n frame.body ending) (sym levelled)
-    ∙ ap (λ (b : MirBody). outcome_of levels b ending) (sym bodied)
-    ∙ ap (λ (c : List Interval). outcome_of levels body (returned (option_and_then (cell_bytes memory) (slice_get c 0)))) (sym placed)
-    ∙ ap (λ (m : Memory). outcome_of levels body (returned (option_and_then (cell_bytes m) (slice_get cells 0)))) (sym same)
+    let read : outcome_of frame.program.world (frame.program.nesting - 1) frame.body ending ≡ Some outcome =
+    ap (λ (w : HirDatabase). outcome_of w (frame.program.nesting - 1) frame.body ending) (sym in_world)
+    ∙ ap (λ (n : ℕ). outcome_of world n frame.body ending) (sym levelled)
+    ∙ ap (λ (b : MirBody). outcome_of world levels b ending) (sym bodied)
+    ∙ ap (λ (c : List Interval). outcome_of world levels body (returned (option_and_then (cell_bytes memory) (slice_get c 0)))) (sym placed)
+    ∙ ap (λ (m : Memory). outcome_of world levels body (returned (option_and_then (cell_bytes m) (slice_get cells 0)))) (sym same)
     ∙ is in
-    let began : outcome_from frame ending ≡ Some outcome = ap (λ (below : List Waiting). outcome_of (frame.program.nesting - 1) (first_body frame.body below) ending) alone ∙ read in
+    let began : outcome_from frame ending ≡ Some outcome = ap (λ (below : List Waiting). outcome_of frame.program.world (frame.program.nesting - 1) (first_body frame.body below) ending) alone ∙ read in
     let over : LeadsTo frame left (Stops ending) (Over outcome left) = record { result = outcome; outcome = began; state_is = refl } in
     inl (subst (λ (next : Next). LeadsTo frame left next (Over outcome left))
     (sym (ap (λ (below : List Waiting). elim below [ [] ↦ Stops ending | caller ∷ others ↦ resumed frame.program memory caller others ]) alone)) over)
@@ -51,8 +53,8 @@ over-same frame other same ending left state is =
     record {
       result = is.result;
       outcome =
-          ap (λ (p : Program). outcome_of (p.nesting - 1) (first_body other.body other.below) ending) (sym same.program)
-          ∙ ap (λ (b : MirBody). outcome_of (frame.program.nesting - 1) b ending) (sym same.began) ∙ is.outcome;
+          ap (λ (p : Program). outcome_of p.world (p.nesting - 1) (first_body other.body other.below) ending) (sym same.program)
+          ∙ ap (λ (b : MirBody). outcome_of frame.program.world (frame.program.nesting - 1) b ending) (sym same.began) ∙ is.outcome;
       state_is = is.state_is;
     }
 
@@ -105,8 +107,8 @@ going-same one other same = cc
 -- an outcome is the same by all frames of one run
 outcome-same : (frame other : Frame) → IsSameRun frame other → (ending : Ending) → outcome_from other ending ≡ outcome_from frame ending
 outcome-same frame other same ending =
-    ap (λ (p : Program). outcome_of (p.nesting - 1) (first_body other.body other.below) ending) (sym same.program)
-    ∙ ap (λ (b : MirBody). outcome_of (frame.program.nesting - 1) b ending) (sym same.began)
+    ap (λ (p : Program). outcome_of p.world (p.nesting - 1) (first_body other.body other.below) ending) (sym same.program)
+    ∙ ap (λ (b : MirBody). outcome_of frame.program.world (frame.program.nesting - 1) b ending) (sym same.began)
 
 -- and so is the state at an end
 ends-same : (frame other : Frame) → IsSameRun frame other → (left : ℕ) (state : State) (ending : Ending) → EndsWith frame left state ending → EndsWith other left state ending

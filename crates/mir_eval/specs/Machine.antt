@@ -1,7 +1,7 @@
 -- The machine that runs a body, as its callers see it, and what its calls do.
 use Rattle.std.specs.Prelude.{◌≡◌, ◌⊎◌, ℕ, zero, suc, ◌-◌, ◌≤◌, nat_le, if◌then◌else◌, List, [], Option, Some, None, Result, Ok, Err, slice_get, option_and_then}
 use Rattle.world.specs.declared.database.HirDatabase.{HirDatabase}
-use Rattle.heights.specs.Heights.{height}
+use Rattle.source_meaning.specs.Heights.{height}
 use Rattle.types.specs.declared.ty.Const.{Const}
 use Rattle.types.specs.declared.ty.Const.TheVariants.{Value}
 use Rattle.types.specs.declared.ty.MemoryMap.TheVariants.{Empty}
@@ -106,8 +106,8 @@ wrapped error.NoMemory trail = error.NoMemory
 wrapped e trail = error.InFunction e trail
 
 -- how many levels of nesting the value of a body takes: as many as the type of its return slot is high
-abbrev pub height_of : MirBody → ℕ
-height_of body = elim (slice_get body.locals 0) [ Some slot ↦ height slot.ty | None ↦ 0 ]
+abbrev pub height_of : HirDatabase → MirBody → ℕ
+height_of world body = elim (slice_get body.locals 0) [ Some slot ↦ height world slot.ty | None ↦ 0 ]
 
 -- a result that takes so many of the levels of nesting that are left: `StackOverflow` where there are fewer
 abbrev pub on_levels : {A : Type 0} → (taken left : ℕ) → Result A MirEvalError → Result A MirEvalError
@@ -115,14 +115,14 @@ on_levels taken left result = if nat_le taken left then result else Err error.St
 
 -- What a run hands out at its end, which began in `body`: the value, or the fault. A value takes as many of the `levels` levels of nesting that
 -- are left as its type is high; where there are fewer, that is the outcome, and no frame's fault. A run that asks isn't over.
-unfoldable pub outcome_of : (levels : ℕ) → MirBody → Ending → Option (Result Const MirEvalError)
-outcome_of levels body (Returned bytes) = Some (on_levels (height_of body) levels (value_of body bytes))
-outcome_of levels body (Faulted e trail) = Some (Err (wrapped e trail))
-outcome_of levels body (Asked q frame memory call) = None
+unfoldable pub outcome_of : HirDatabase → (levels : ℕ) → MirBody → Ending → Option (Result Const MirEvalError)
+outcome_of world levels body (Returned bytes) = Some (on_levels (height_of world body) levels (value_of body bytes))
+outcome_of world levels body (Faulted e trail) = Some (Err (wrapped e trail))
+outcome_of world levels body (Asked q frame memory call) = None
 
 -- what a run hands out that goes on from a frame and ends so
 abbrev pub outcome_from : Frame → Ending → Option (Result Const MirEvalError)
-outcome_from frame ending = outcome_of (frame.program.nesting - 1) (first_body frame.body frame.below) ending
+outcome_from frame ending = outcome_of frame.program.world (frame.program.nesting - 1) (first_body frame.body frame.below) ending
 
 -- the state of a run that stops at a call to ask
 pub record Waits (q : Query) (frame : Frame) (memory : Memory) (call : Calling) (left : ℕ) (state : State) : Type 0 where

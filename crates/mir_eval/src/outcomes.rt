@@ -17,7 +17,7 @@ use mir::{Interval, LocalId, MirBody, MirEvalError, TrailEntry};
 use mir_mem::{Memory, View, copy_of};
 use mir_rows::cell_of;
 use std::alloc::Global;
-use world::{Box, Const, List, MemoryMap, NoMemory, TryClone, ValueConst};
+use world::{Box, Const, HirDatabase, List, MemoryMap, NoMemory, TryClone, ValueConst};
 
 /// The calls that are open, the innermost first, behind one whose callee's body couldn't be got, if there is one.
 fn trail(
@@ -70,15 +70,16 @@ fn bad_slot(alloc: Global) -> Result<Result<Const, MirEvalError>, NoMemory>
 /// The value of a body whose return slot has these bytes, with `levels` levels of nesting left for it.
 fn value(
     alloc: Global,
+    db: &HirDatabase,
     body: &MirBody,
     bytes: &View<'_>,
     levels: u32,
 ) -> Result<Result<Const, MirEvalError>, NoMemory>
-    ensures { IfOk result (λ r. r ≡ on_levels (height_of body.now) levels (value_of body.now (concat bytes.now))) }
+    ensures { IfOk result (λ r. r ≡ on_levels (height_of db.now body.now) levels (value_of body.now (concat bytes.now))) }
 {
     match body.locals.get(0) {
         Some(slot) => {
-            if !is_within(&slot.ty, levels) {
+            if !is_within(alloc, db, &slot.ty, levels)? {
                 return Ok(Err(MirEvalError::StackOverflow));
             }
             let ty = slot.ty.try_clone(alloc)?;
@@ -94,20 +95,21 @@ fn value(
     }
 }
 
-/// What a run hands out whose body returned that none called, with `levels` levels of nesting left for its value.
+/// What a run in a world hands out whose body returned that none called, with `levels` levels of nesting left for its value.
 #[tactic(auto, unfolding(crate::specs::Machine::outcome_of))]
 pub(crate) fn returned<M: Memory>(
     alloc: Global,
+    db: &HirDatabase,
     body: &MirBody,
     cells: &[Interval],
     memory: &M,
     levels: u32,
 ) -> Result<Result<Const, MirEvalError>, NoMemory>
-    ensures { IfOk result (λ r. outcome_of levels body.now (returned (option_and_then (cell_bytes (M.areas memory.now)) (slice_get cells.now 0))) ≡ Some r) }
+    ensures { IfOk result (λ r. outcome_of db.now levels body.now (returned (option_and_then (cell_bytes (M.areas memory.now)) (slice_get cells.now 0))) ≡ Some r) }
 {
     match cell_of(cells, LocalId(0)) {
         Some(cell) => match read(memory, cell) {
-            Some(bytes) => value(alloc, body, &bytes, levels),
+            Some(bytes) => value(alloc, db, body, &bytes, levels),
             None => bad_slot(alloc),
         },
         None => bad_slot(alloc),

@@ -208,6 +208,7 @@ impl<'a, M: Memory + Drop> Run<'a, M> {
                 let levels = self.program.nesting.saturating_sub(1);
                 match returned(
                     alloc,
+                    self.program.db,
                     self.body.as_ref().body(),
                     self.cells.as_slice(),
                     &self.memory,

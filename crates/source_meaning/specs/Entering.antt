@@ -2,11 +2,12 @@
 use Rattle.std.specs.Prelude.{ℕ, zero, suc, ◌+◌, Bool, true, false, cond, not, ◌&&◌, ◌||◌, ◌==◌, List, [], ◌∷◌, length, flat_map, map, filter, sum, Option, Some, None, option_and_then}
 use Rattle.std.specs.List.{list_all}
 use Rattle.types.specs.declared.ty.Ty.{Ty}
+use Rattle.world.specs.declared.database.HirDatabase.{HirDatabase}
 use Rattle.world.specs.declared.layout.Layout.{Layout}
-use Rattle.heights.specs.Heights.{height}
 use Rattle.world.specs.Lookups.{layout_of}
 use Rattle.source_meaning.specs.Core.{is_place}
 use Rattle.source_meaning.specs.Ends.{Cost}
+use Rattle.source_meaning.specs.Heights.{height}
 use Rattle.source_meaning.specs.Source.{Source, Cell, IndexOf, Node, Binding, Never, binding_type, cell_layout, node, unadjusted, own_type, node_type, root}
 use Rattle.source_meaning.specs.Steps.{parts_of}
 
@@ -69,9 +70,9 @@ is_cost_defined source =
     && list_all (λ b. is_sized_or_none source (binding_type source b)) (below (length source.body.bindings))
 
 -- how many levels of nesting a value takes, by its type
-abbrev pub value_height : Option Ty → ℕ
-value_height (Some ty) = height ty
-value_height None = 0
+abbrev pub value_height : HirDatabase → Option Ty → ℕ
+value_height world (Some ty) = height world ty
+value_height world None = 0
 
 -- The cost of entering a body: a block, the bytes of its cells, and the level of nesting that it runs on.
 unfoldable pub entering : Source → Cost
@@ -79,4 +80,4 @@ entering source = record { turns = 1; bytes = body_room source; nesting = 1; def
 
 -- What a run of a body by itself costs beside the body: on its level of nesting stand those of its value.
 unfoldable pub run_cost : Source → Cost
-run_cost source = record { turns = 0; bytes = 0; nesting = suc (value_height (node_type source (root source))); defined = true }
+run_cost source = record { turns = 0; bytes = 0; nesting = suc (value_height source.world (node_type source (root source))); defined = true }

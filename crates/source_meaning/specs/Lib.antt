@@ -7,6 +7,7 @@ pub mod Core
 pub mod Ends
 pub mod Entering
 pub mod Events
+pub mod Heights
 pub mod Indices
 pub mod Laid
 pub mod Laws

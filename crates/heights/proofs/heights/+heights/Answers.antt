@@ -1,80 +1,94 @@
--- What lies below each type.
-use Rattle.std.proofs.Common.{sym, ap, ◌∙◌, ◌≡◌, ◌-◌, Bool, true, false, ℕ, map, suc, nat_le}
-use Rattle.std.specs.List.{list_all}
-use Rattle.heights.specs.Heights.{below, below_array, depth, height, is_zero}
-use Rattle.heights.proofs.Layers.{flat-within, in_adt, in_alias, in_array, in_bool, in_char, in_closure, in_dynamic, in_float, in_fn_def, in_fn_ptr, in_int, in_never, in_no_ty, in_param, in_raw_ptr, in_ref, in_slice, in_str, in_tuple, in_uint, one-less, tuple-within}
+use Rattle.std.proofs.Common.{◌≡◌, ◌∙◌, ◌<◌, ◌+◌, ◌-◌, ℕ, zero, suc, IfOk, Some, None, List, Option, get_or, map, slice_get, sym, ap, subst, arith}
+use Rattle.std.proofs.lemmas.Bool.Decides.{nat_tests}
+use Rattle.std.proofs.lemmas.Option.{slice_get-get_or, slice_get_within}
+use Rattle.std.specs.Ordering.{nat_cmp, ord_max}
+use Rattle.source_meaning.specs.Heights.{first_heights, greatest, height_among, heights}
+use Rattle.heights.specs.Known.{AreHeights, at_most}
+use Rattle.heights.proofs.Known.{found-known, put-known}
+use Rattle.heights.proofs.Rows.{above, elsewhere, most, one-too-much, outside, over-parts, positive, too-much, was-most, was-too-much, with-part}
 use Rattle.heights.proofs.heights.+heights.Goals as goal
 
-pub is_within-returns-in-Tuple : goal.is_within-returns-in-Tuple
-is_within-returns-in-Tuple t c =
-    c.are_within.ensures ∙ ap (list_all (λ ty. nat_le (height ty) (c.args.levels - 1))) c.as_slice.ensures
-    ∙ sym (tuple-within c.in-Tuple.parts (c.args.levels - 1)) ∙ one-less (below (map depth c.in-Tuple.parts)) c.args.levels c.if-levels-eq0.false
-    ∙ ap (λ (depth : ℕ). nat_le (suc depth) c.args.levels) (sym (ap depth c.in-Tuple.is ∙ in_tuple c.in-Tuple.parts))
+some-levels : (n : ℕ) → (n ≡ 0 → ⊥) → 0 < n
+some-levels zero none = absurd (none cc)
+some-levels (suc n) none = omega arith
 
-pub is_within-returns-then-is_zero : goal.is_within-returns-then-is_zero
-is_within-returns-then-is_zero t c =
-    let zero : is_zero c.in-Array.len ≡ true = sym (ap is_zero c.as_ref.ensures) ∙ sym c.is_zero.ensures ∙ c.if-is_zero.true in
-    let none : depth c.args.ty.now ≡ 0 = ap depth c.in-Array.is ∙ in_array c.in-Array.element c.in-Array.len ∙ ap (λ (test : Bool). below_array test (depth c.in-Array.element)) zero in
-    c.if-is_zero.true ∙ flat-within (depth c.args.ty.now) c.args.levels none c.if-levels-eq0.false
+greater-of : (a b : ℕ) → ord_max nat_cmp a b ≡ a + (b - a)
+greater-of a b = grind (arith, nat_tests)
 
-pub is_within-returns-else-is_zero : goal.is_within-returns-else-is_zero
-is_within-returns-else-is_zero t c =
-    let some : is_zero c.in-Array.len ≡ false = sym (ap is_zero c.as_ref.ensures) ∙ sym c.is_zero.ensures ∙ c.if-is_zero.false in
-    let one_more : depth c.args.ty.now ≡ suc (depth c.in-Array.element) = ap depth c.in-Array.is ∙ in_array c.in-Array.element c.in-Array.len ∙ ap (λ (test : Bool). below_array test (depth c.in-Array.element)) some in
-    c.is_within.ensures ∙ ap (λ ty. nat_le (height ty) (c.args.levels - 1)) c.as_ref-else-is_zero.ensures
-    ∙ one-less (suc (depth c.in-Array.element)) c.args.levels c.if-levels-eq0.false
-    ∙ ap (λ (depth : ℕ). nat_le (suc depth) c.args.levels) (sym one_more)
+pub height_at-returns-then-levels-eq0-clause-height :
+    goal.height_at-returns-then-levels-eq0-clause-height
+height_at-returns-then-levels-eq0-clause-height t c =
+    let more = positive c.args.db.now c.args.place in
+    sym (too-much (height_among (heights c.args.db.now) (Some c.args.place)) c.args.levels (omega (arith, more, c.if-levels-eq0.true)))
 
-pub is_within-returns-in-Bool : goal.is_within-returns-in-Bool
-is_within-returns-in-Bool t c = flat-within (depth c.args.ty.now) c.args.levels (ap depth c.in-Bool.is ∙ in_bool) c.if-levels-eq0.false
+pub height_at-returns-in-Some-clause-height : goal.height_at-returns-in-Some-clause-height
+height_at-returns-in-Some-clause-height t c =
+    c.at_most.ensures ∙ ap (λ (n : ℕ). at_most n c.args.levels) (sym (found-known c.args.db.now c.args.place c.args.known.now c.in-Some.height.now c.requires (sym c.in-Some.ensures)))
 
-pub is_within-returns-in-Char : goal.is_within-returns-in-Char
-is_within-returns-in-Char t c = flat-within (depth c.args.ty.now) c.args.levels (ap depth c.in-Char.is ∙ in_char) c.if-levels-eq0.false
+pub height_at-returns-in_default-at-clause-height :
+    goal.height_at-returns-in_default-at-clause-height
+height_at-returns-in_default-at-clause-height t c =
+    let some = some-levels c.args.levels c.if-levels-eq0.false in
+    sym (ap (λ (n : ℕ). at_most n c.args.levels) (outside c.args.db.now c.args.place (sym c.in_default-at.ensures)) ∙ most 1 c.args.levels (omega (arith, some)))
 
-pub is_within-returns-in-Int : goal.is_within-returns-in-Int
-is_within-returns-in-Int t c = flat-within (depth c.args.ty.now) c.args.levels (ap depth c.in-Int.is ∙ in_int _) c.if-levels-eq0.false
+pub height_at-highest-requires : goal.height_at-highest-requires
+height_at-highest-requires t c =
+    let some = some-levels c.args.levels c.if-levels-eq0.false in
+    (omega (arith, some), (slice_get_within c.args.db.now.layouts c.args.place c.in-Some-at.row.now (sym c.in-Some-at.ensures), c.requires))
 
-pub is_within-returns-in-Uint : goal.is_within-returns-in-Uint
-is_within-returns-in-Uint t c = flat-within (depth c.args.ty.now) c.args.levels (ap depth c.in-Uint.is ∙ in_uint _) c.if-levels-eq0.false
+pub height_at-returns-in_default-2-clause-height :
+    goal.height_at-returns-in_default-2-clause-height
+height_at-returns-in_default-2-clause-height t c =
+    let some = some-levels c.args.levels c.if-levels-eq0.false in
+    let over = over-parts c.args.db.now c.args.place c.in-Some-at.row.now c.as_slice.result.now (sym c.in-Some-at.ensures) (c.as_slice.ensures ∙ c.in_ok-parts.ensures) in
+    let more = was-too-much (greatest (map (height_among (first_heights c.args.db.now c.args.place)) c.as_slice.result.now)) (c.args.levels - 1) (sym c.in_default-2.is ∙ c.in_ok-highest.ensures.highest) in
+    sym (too-much (height_among (heights c.args.db.now) (Some c.args.place)) c.args.levels (omega (arith, some, over, more)))
 
-pub is_within-returns-in-Float : goal.is_within-returns-in-Float
-is_within-returns-in-Float t c = flat-within (depth c.args.ty.now) c.args.levels (ap depth c.in-Float.is ∙ in_float _) c.if-levels-eq0.false
+pub height_at-returns-clause-height : goal.height_at-returns-clause-height
+height_at-returns-clause-height t c =
+    let some = some-levels c.args.levels c.if-levels-eq0.false in
+    let over = over-parts c.args.db.now c.args.place c.in-Some-at.row.now c.as_slice.result.now (sym c.in-Some-at.ensures) (c.as_slice.ensures ∙ c.in_ok-parts.ensures) in
+    let found = was-most (greatest (map (height_among (first_heights c.args.db.now c.args.place)) c.as_slice.result.now)) (c.args.levels - 1) c.in-Some-2.highest (sym c.in-Some-2.is ∙ c.in_ok-highest.ensures.highest) in
+    sym (ap (λ (n : ℕ). at_most n c.args.levels) (omega (arith, over, found.0)) ∙ most (c.in-Some-2.highest + 1) c.args.levels (omega (arith, some, found.0, found.1)))
 
-pub is_within-returns-in-Str : goal.is_within-returns-in-Str
-is_within-returns-in-Str t c = flat-within (depth c.args.ty.now) c.args.levels (ap depth c.in-Str.is ∙ in_str) c.if-levels-eq0.false
+pub height_at-returns-clause-known : goal.height_at-returns-clause-known
+height_at-returns-clause-known t c =
+    let some = some-levels c.args.levels c.if-levels-eq0.false in
+    let over = over-parts c.args.db.now c.args.place c.in-Some-at.row.now c.as_slice.result.now (sym c.in-Some-at.ensures) (c.as_slice.ensures ∙ c.in_ok-parts.ensures) in
+    let found = was-most (greatest (map (height_among (first_heights c.args.db.now c.args.place)) c.as_slice.result.now)) (c.args.levels - 1) c.in-Some-2.highest (sym c.in-Some-2.is ∙ c.in_ok-highest.ensures.highest) in
+    subst (λ (known : List (ℕ × ℕ)). AreHeights c.args.db.now known) (sym c.in_ok-insert.ensures.ok)
+    (put-known c.args.db.now c.args.place (c.in-Some-2.highest + 1) _ (omega (arith, over, found.0)) c.in_ok-highest.ensures.known)
 
-pub is_within-returns-in-Never : goal.is_within-returns-in-Never
-is_within-returns-in-Never t c = flat-within (depth c.args.ty.now) c.args.levels (ap depth c.in-Never.is ∙ in_never) c.if-levels-eq0.false
+pub part_height-returns-then-place-row-clause-height :
+    goal.part_height-returns-then-place-row-clause-height
+part_height-returns-then-place-row-clause-height t c =
+    let same : height_among (heights c.args.db.now) (Some c.in-Some.place) ≡ height_among (first_heights c.args.db.now c.args.row) c.args.part =
+    above c.args.db.now c.args.row c.in-Some.place c.requires.row c.if-place-row.true ∙ ap (height_among (first_heights c.args.db.now c.args.row)) (sym c.in-Some.is) in
+    subst (λ (n : ℕ). IfOk c.height_at.result (λ (height : Option ℕ). height ≡ at_most n c.args.levels)) same c.height_at.ensures.height
 
-pub is_within-returns-in-Slice : goal.is_within-returns-in-Slice
-is_within-returns-in-Slice t c = flat-within (depth c.args.ty.now) c.args.levels (ap depth c.in-Slice.is ∙ in_slice _) c.if-levels-eq0.false
+pub part_height-returns-else-place-row-clause-height :
+    goal.part_height-returns-else-place-row-clause-height
+part_height-returns-else-place-row-clause-height t c =
+    c.at_most.ensures
+    ∙ ap (λ (n : ℕ). at_most n c.args.levels)
+    (sym (ap (height_among (first_heights c.args.db.now c.args.row)) c.in-Some.is ∙ elsewhere c.args.db.now c.args.row c.in-Some.place c.if-place-row.false))
 
-pub is_within-returns-in-Ref : goal.is_within-returns-in-Ref
-is_within-returns-in-Ref t c = flat-within (depth c.args.ty.now) c.args.levels (ap depth c.in-Ref.is ∙ in_ref _ _) c.if-levels-eq0.false
+pub highest-returns-in_default-clause-highest : goal.highest-returns-in_default-clause-highest
+highest-returns-in_default-clause-highest t c =
+    let i = c.loop-part.part-index in
+    let part = get_or c.args.parts.now i None in
+    let there : slice_get c.args.parts.now i ≡ Some part = slice_get-get_or c.args.parts.now i None c.loop-part-test.true in
+    let more = was-too-much (height_among (first_heights c.args.db.now c.args.row) part) c.args.levels (sym c.in_default.is ∙ c.in_ok-height.ensures.height) in
+    sym (one-too-much (first_heights c.args.db.now c.args.row) c.args.parts.now i part there c.args.levels more)
 
-pub is_within-returns-in-RawPtr : goal.is_within-returns-in-RawPtr
-is_within-returns-in-RawPtr t c = flat-within (depth c.args.ty.now) c.args.levels (ap depth c.in-RawPtr.is ∙ in_raw_ptr _ _) c.if-levels-eq0.false
-
-pub is_within-returns-in-Adt : goal.is_within-returns-in-Adt
-is_within-returns-in-Adt t c = flat-within (depth c.args.ty.now) c.args.levels (ap depth c.in-Adt.is ∙ in_adt _ _) c.if-levels-eq0.false
-
-pub is_within-returns-in-FnDef : goal.is_within-returns-in-FnDef
-is_within-returns-in-FnDef t c = flat-within (depth c.args.ty.now) c.args.levels (ap depth c.in-FnDef.is ∙ in_fn_def _ _) c.if-levels-eq0.false
-
-pub is_within-returns-in-FnPtr : goal.is_within-returns-in-FnPtr
-is_within-returns-in-FnPtr t c = flat-within (depth c.args.ty.now) c.args.levels (ap depth c.in-FnPtr.is ∙ in_fn_ptr _ _) c.if-levels-eq0.false
-
-pub is_within-returns-in-Closure : goal.is_within-returns-in-Closure
-is_within-returns-in-Closure t c = flat-within (depth c.args.ty.now) c.args.levels (ap depth c.in-Closure.is ∙ in_closure _ _) c.if-levels-eq0.false
-
-pub is_within-returns-in-Dynamic : goal.is_within-returns-in-Dynamic
-is_within-returns-in-Dynamic t c = flat-within (depth c.args.ty.now) c.args.levels (ap depth c.in-Dynamic.is ∙ in_dynamic _) c.if-levels-eq0.false
-
-pub is_within-returns-in-Alias : goal.is_within-returns-in-Alias
-is_within-returns-in-Alias t c = flat-within (depth c.args.ty.now) c.args.levels (ap depth c.in-Alias.is ∙ in_alias _ _) c.if-levels-eq0.false
-
-pub is_within-returns-in-Param : goal.is_within-returns-in-Param
-is_within-returns-in-Param t c = flat-within (depth c.args.ty.now) c.args.levels (ap depth c.in-Param.is ∙ in_param _) c.if-levels-eq0.false
-
-pub is_within-returns-in-Error : goal.is_within-returns-in-Error
-is_within-returns-in-Error t c = flat-within (depth c.args.ty.now) c.args.levels (ap depth c.in-Error.is ∙ in_no_ty) c.if-levels-eq0.false
+pub highest-loop-part-preserved : goal.highest-loop-part-preserved
+highest-loop-part-preserved t c =
+    let i = c.loop-part.part-index in
+    let part = get_or c.args.parts.now i None in
+    let there : slice_get c.args.parts.now i ≡ Some part = slice_get-get_or c.args.parts.now i None c.loop-part-test.true in
+    let found = was-most (height_among (first_heights c.args.db.now c.args.row) part) c.args.levels c.in-Some.height (sym c.in-Some.is ∙ c.in_ok-height.ensures.height) in
+    let raised : c.max-highest.result ≡ c.loop-part.highest + (c.in-Some.height - c.loop-part.highest) = c.max-highest.ensures ∙ greater-of c.loop-part.highest c.in-Some.height in (
+      with-part (first_heights c.args.db.now c.args.row) c.args.parts.now i part there c.in-Some.height c.loop-part.highest c.max-highest.result c.loop-part-test.true c.loop-part.invariant.0 found.0 raised,
+      omega (arith, raised, found.1, found.0, c.loop-part.invariant.1),
+      c.in_ok-height.ensures.known,
+    )

@@ -12,8 +12,8 @@ pub returns-in-Ok-clause-leads : goal.returns-in-Ok-clause-leads
 returns-in-Ok-clause-leads g c =
     let old = c.args.self.now in
     let empty : old.below.items ≡ [] = grind (arith, common_steps) in
-    none-waits (frame_in old) (g.M.Memory.areas old.memory) (g.M.Memory.areas old.memory) old.left _ c.in-Ok.outcome c.saturating_sub-levels.result c.body.result.now c.as_slice.result.now
-    (ap callers empty) (search rules) (search rules) c.as_slice.ensures.value refl c.in-Ok.ensures
+    none-waits (frame_in old) (g.M.Memory.areas old.memory) (g.M.Memory.areas old.memory) old.left _ c.in-Ok.outcome _ c.saturating_sub-levels.result c.body.result.now c.as_slice.result.now
+    (ap callers empty) refl (search rules) (search rules) c.as_slice.ensures.value refl c.in-Ok.ensures
 
 pub returns-in-None-next-clause-leads : goal.returns-in-None-next-clause-leads
 returns-in-None-next-clause-leads g c =
