@@ -72,9 +72,9 @@ target_of_blocks blocks =
 abbrev pub targets_of : List LoopBlocks → List OpenTarget
 targets_of loops = reverse (map target_of_blocks loops)
 
--- what a graph of the code is
-abbrev pub shape : Graph → Shape
-shape graph =
+-- what a graph of the code is; `projections`: those that its interner keeps
+abbrev pub shape : {I : Type 0} → (projections : I → List Projection) → Graph I → Shape
+shape projections graph =
     record {
       blocks = graph.blocks.items;
       current = graph.current.0;
@@ -83,7 +83,7 @@ shape graph =
       temps = graph.temps.items;
       scope = cells_of graph.scope.items;
       targets = targets_of graph.loops.items;
-      projections = graph.projections.projections;
+      projections = projections graph.projections;
     }
 
 abbrev pub no_statements : BasicBlock

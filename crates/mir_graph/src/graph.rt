@@ -69,7 +69,7 @@ pub struct DropScopeToken(pub usize);
 
 /// A graph that is being built. What a call does to it is said of its `shape`, in `specs/Graph.antt`.
 #[derive(Drop)]
-pub struct Graph {
+pub struct Graph<I> {
     /// The blocks so far, by their ids.
     pub blocks: Vec<BasicBlock>,
     /// The block that statements are added to.
@@ -85,7 +85,7 @@ pub struct Graph {
     /// The loops and labelled blocks that are being lowered, the outermost first.
     pub loops: Vec<LoopBlocks>,
     /// The projections of places, each under one id.
-    pub projections: ProjectionStore,
+    pub projections: I,
 }
 
 fn empty_block(alloc: Global) -> BasicBlock
@@ -108,10 +108,12 @@ fn is_meant(label: Option<LabelId>, blocks: &LoopBlocks) -> bool
     }
 }
 
-impl Graph {
-    /// One open block and the return slot, for a body of `nodes` expressions.
-    pub fn new(alloc: Global, ty: Ty, nodes: u64) -> Result<Graph, NoMemory>
-        ensures { IfOk result (λ graph. shape graph ≡ first_shape ty nodes) }
+impl<I: Interner + Drop> Graph<I> {
+    /// One open block and the return slot, for a body of `nodes` expressions, over an interner that holds no projection but the
+    /// empty one.
+    pub fn new(alloc: Global, ty: Ty, nodes: u64, projections: I) -> Result<Graph<I>, NoMemory>
+        requires { I.projections projections ≡ [] ∷ [] }
+        ensures { IfOk result (λ graph. shape I.projections graph ≡ first_shape ty nodes) }
     {
         let mut blocks = Vec::new(alloc);
         blocks.push(empty_block(alloc))?;
@@ -131,14 +133,16 @@ impl Graph {
             temps,
             scope: Vec::new(alloc),
             loops: Vec::new(alloc),
-            projections: ProjectionStore::new(alloc)?,
+            projections,
         })
     }
+}
 
+impl<I: Interner> Graph<I> {
     /// Adds a binding, with a new local of its type. A local that would be the 2^32nd has no id: `NoMemory`.
     #[tactic(auto, unfolding(crate::specs::Graph::with_binding))]
     pub fn push_bound(&mut self, ty: Ty) -> Result<(), NoMemory>
-        ensures { OnOk result (shape self.new ≡ with_binding (Some ty) (shape self.old)) }
+        ensures { OnOk result (shape I.projections self.new ≡ with_binding (Some ty) (shape I.projections self.old)) }
     {
         let count = self.locals.len();
         if count >= u32::MAX as u64 {
@@ -152,7 +156,7 @@ impl Graph {
     /// Adds a binding that has no local.
     #[tactic(auto, unfolding(crate::specs::Graph::with_binding))]
     pub fn push_unbound(&mut self) -> Result<(), NoMemory>
-        ensures { OnOk result (shape self.new ≡ with_binding None (shape self.old)) }
+        ensures { OnOk result (shape I.projections self.new ≡ with_binding None (shape I.projections self.old)) }
     {
         self.bindings.push(None)?;
         Ok(())
@@ -162,7 +166,7 @@ impl Graph {
     #[tactic(auto, unfolding(crate::specs::Graph::with_statement))]
     pub fn push_statement(&mut self, statement: Statement) -> Result<(), NoMemory>
         requires { self.old.current.0 < length self.old.blocks.items }
-        ensures { OnOk result (shape self.new ≡ with_statement statement (shape self.old)) }
+        ensures { OnOk result (shape I.projections self.new ≡ with_statement statement (shape I.projections self.old)) }
     {
         let block = &mut self.blocks[self.current.0 as usize];
         block.statements.push(statement)?;
@@ -173,7 +177,7 @@ impl Graph {
     #[tactic(auto, unfolding(crate::specs::Graph::with_terminator))]
     pub fn set_terminator(&mut self, terminator: Terminator)
         requires { self.old.current.0 < length self.old.blocks.items }
-        ensures { shape self.new ≡ with_terminator terminator (shape self.old) }
+        ensures { shape I.projections self.new ≡ with_terminator terminator (shape I.projections self.old) }
     {
         let block = &mut self.blocks[self.current.0 as usize];
         block.terminator = Some(terminator);
@@ -182,7 +186,7 @@ impl Graph {
     /// Adds a block and opens it. A block that would be the 2^32nd has no id: `NoMemory`.
     #[tactic(auto, unfolding(crate::specs::Graph::with_block))]
     pub fn open_block(&mut self, alloc: Global) -> Result<(), NoMemory>
-        ensures { OnOk result (shape self.new ≡ with_block (shape self.old)) }
+        ensures { OnOk result (shape I.projections self.new ≡ with_block (shape I.projections self.old)) }
     {
         let count = self.blocks.len();
         if count >= u32::MAX as usize {
@@ -196,8 +200,8 @@ impl Graph {
     /// Adds a block, and leaves the open one open. A block that would be the 2^32nd has no id: `NoMemory`.
     #[tactic(auto, unfolding(crate::specs::Graph::with_reserved))]
     pub fn reserve_block(&mut self, alloc: Global) -> Result<BasicBlockId, NoMemory>
-        ensures id { IfOk result (λ block. block.0 ≡ length (shape self.old).blocks) }
-        ensures added { OnOk result (shape self.new ≡ with_reserved (shape self.old)) }
+        ensures id { IfOk result (λ block. block.0 ≡ length (shape I.projections self.old).blocks) }
+        ensures added { OnOk result (shape I.projections self.new ≡ with_reserved (shape I.projections self.old)) }
     {
         let count = self.blocks.len();
         if count >= u32::MAX as usize {
@@ -210,7 +214,7 @@ impl Graph {
     /// Opens a block that was reserved.
     #[tactic(auto, unfolding(crate::specs::Graph::with_entered))]
     pub fn enter_block(&mut self, block: BasicBlockId)
-        ensures { shape self.new ≡ with_entered block.0 (shape self.old) }
+        ensures { shape I.projections self.new ≡ with_entered block.0 (shape I.projections self.old) }
     {
         self.current = block;
     }
@@ -220,7 +224,7 @@ impl Graph {
     fn new_temp(&mut self, node: ExprId, ty: Ty) -> Result<LocalId, NoMemory>
         requires { node.0 < length self.old.temps.items }
         ensures local { IfOk result (λ local. local.0 ≡ length self.old.locals) }
-        ensures added { OnOk result (shape self.new ≡ with_temp node.0 ty (shape self.old)) }
+        ensures added { OnOk result (shape I.projections self.new ≡ with_temp node.0 ty (shape I.projections self.old)) }
     {
         let count = self.locals.len();
         if count >= u32::MAX as u64 {
@@ -238,7 +242,7 @@ impl Graph {
     fn new_never(&mut self, node: ExprId, ty: Ty) -> Result<LocalId, NoMemory>
         requires { node.0 < length self.old.temps.items }
         ensures local { IfOk result (λ local. local.0 ≡ length self.old.locals) }
-        ensures added { OnOk result (shape self.new ≡ with_never node.0 ty (shape self.old)) }
+        ensures added { OnOk result (shape I.projections self.new ≡ with_never node.0 ty (shape I.projections self.old)) }
     {
         let count = self.locals.len();
         if count >= u32::MAX as u64 {
@@ -256,7 +260,7 @@ impl Graph {
     fn new_index(&mut self, node: ExprId, ty: Ty) -> Result<LocalId, NoMemory>
         requires { node.0 < length self.old.temps.items }
         ensures local { IfOk result (λ local. local.0 ≡ length self.old.locals) }
-        ensures added { OnOk result (shape self.new ≡ with_index node.0 ty (shape self.old)) }
+        ensures added { OnOk result (shape I.projections self.new ≡ with_index node.0 ty (shape I.projections self.old)) }
     {
         let count = self.locals.len();
         if count >= u32::MAX as u64 {
@@ -271,7 +275,7 @@ impl Graph {
 
     /// Marks a local as in use in the innermost open scope.
     pub fn mark(&mut self, held: Held, local: LocalId) -> Result<(), NoMemory>
-        ensures marked { OnOk result (shape self.new ≡ with_mark (cell_of held) (shape self.old)) }
+        ensures marked { OnOk result (shape I.projections self.new ≡ with_mark (cell_of held) (shape I.projections self.old)) }
         ensures local { OnOk result (self.new.scope.items ≡ self.old.scope.items ++ record { held = held; local = local } ∷ []) }
     {
         self.scope.push(Marked { held, local })?;
@@ -283,10 +287,10 @@ impl Graph {
     #[tactic(auto, unfolding(crate::specs::Graph::temp_of))]
     pub fn temp_for(&mut self, node: ExprId, ty: Ty) -> Result<LocalId, NoMemory>
         requires { node.0 < length self.old.temps.items }
-        ensures old { IfOk result (λ local. (l : ℕ) → temp_of (shape self.old) node.0 ≡ Some l
-            → (local.0 ≡ l) × (shape self.new ≡ with_mark (Node node.0) (shape self.old))) }
-        ensures new { IfOk result (λ local. temp_of (shape self.old) node.0 ≡ None
-            → (local.0 ≡ length self.old.locals) × (shape self.new ≡ with_mark (Node node.0) (with_temp node.0 ty (shape self.old)))) }
+        ensures old { IfOk result (λ local. (l : ℕ) → temp_of (shape I.projections self.old) node.0 ≡ Some l
+            → (local.0 ≡ l) × (shape I.projections self.new ≡ with_mark (Node node.0) (shape I.projections self.old))) }
+        ensures new { IfOk result (λ local. temp_of (shape I.projections self.old) node.0 ≡ None
+            → (local.0 ≡ length self.old.locals) × (shape I.projections self.new ≡ with_mark (Node node.0) (with_temp node.0 ty (shape I.projections self.old)))) }
     {
         let local = match self.temps[node.0 as usize].value {
             Some(local) => local,
@@ -301,10 +305,10 @@ impl Graph {
     #[tactic(auto, unfolding(crate::specs::Graph::never_of))]
     pub fn never_for(&mut self, node: ExprId, ty: Ty) -> Result<LocalId, NoMemory>
         requires { node.0 < length self.old.temps.items }
-        ensures old { IfOk result (λ local. (l : ℕ) → never_of (shape self.old) node.0 ≡ Some l
-            → (local.0 ≡ l) × (shape self.new ≡ with_mark (Never node.0) (shape self.old))) }
-        ensures new { IfOk result (λ local. never_of (shape self.old) node.0 ≡ None
-            → (local.0 ≡ length self.old.locals) × (shape self.new ≡ with_mark (Never node.0) (with_never node.0 ty (shape self.old)))) }
+        ensures old { IfOk result (λ local. (l : ℕ) → never_of (shape I.projections self.old) node.0 ≡ Some l
+            → (local.0 ≡ l) × (shape I.projections self.new ≡ with_mark (Never node.0) (shape I.projections self.old))) }
+        ensures new { IfOk result (λ local. never_of (shape I.projections self.old) node.0 ≡ None
+            → (local.0 ≡ length self.old.locals) × (shape I.projections self.new ≡ with_mark (Never node.0) (with_never node.0 ty (shape I.projections self.old)))) }
     {
         let local = match self.temps[node.0 as usize].never {
             Some(local) => local,
@@ -319,10 +323,10 @@ impl Graph {
     #[tactic(auto, unfolding(crate::specs::Graph::index_local))]
     pub fn index_for(&mut self, node: ExprId, ty: Ty) -> Result<LocalId, NoMemory>
         requires { node.0 < length self.old.temps.items }
-        ensures old { IfOk result (λ local. (l : ℕ) → index_local (shape self.old) node.0 ≡ Some l
-            → (local.0 ≡ l) × (shape self.new ≡ with_mark (IndexOf node.0) (shape self.old))) }
-        ensures new { IfOk result (λ local. index_local (shape self.old) node.0 ≡ None
-            → (local.0 ≡ length self.old.locals) × (shape self.new ≡ with_mark (IndexOf node.0) (with_index node.0 ty (shape self.old)))) }
+        ensures old { IfOk result (λ local. (l : ℕ) → index_local (shape I.projections self.old) node.0 ≡ Some l
+            → (local.0 ≡ l) × (shape I.projections self.new ≡ with_mark (IndexOf node.0) (shape I.projections self.old))) }
+        ensures new { IfOk result (λ local. index_local (shape I.projections self.old) node.0 ≡ None
+            → (local.0 ≡ length self.old.locals) × (shape I.projections self.new ≡ with_mark (IndexOf node.0) (with_index node.0 ty (shape I.projections self.old)))) }
     {
         let local = match self.temps[node.0 as usize].index {
             Some(local) => local,
@@ -335,7 +339,7 @@ impl Graph {
     /// The local of a binding, where it has one: none where a closure owns it, and none where the graph has no such binding.
     #[tactic(auto, unfolding(crate::specs::Graph::binding_local))]
     pub fn binding_local(&self, binding: BindingId) -> Option<LocalId>
-        ensures { option_map (λ local. local.0) result ≡ binding_local (shape self.now) binding.0 }
+        ensures { option_map (λ local. local.0) result ≡ binding_local (shape I.projections self.now) binding.0 }
     {
         match self.bindings.get(binding.0 as usize) {
             Some(local) => *local,
@@ -345,18 +349,18 @@ impl Graph {
 
     /// Opens a scope inside the open ones. It changes nothing and takes no memory.
     pub fn push_drop_scope(&self) -> DropScopeToken
-        ensures { result.0 ≡ length (shape self.now).scope }
+        ensures { result.0 ≡ length (shape I.projections self.now).scope }
     {
         DropScopeToken(self.scope.len())
     }
 
     /// Takes back the last mark of a scope and of those inside it, where one is left. It takes no memory.
     pub fn pop_mark(&mut self, token: DropScopeToken) -> Option<Marked>
-        ensures last { IfSome result (λ marked. shape self.old ≡ with_mark (cell_of marked.held) (shape self.new)) }
+        ensures last { IfSome result (λ marked. shape I.projections self.old ≡ with_mark (cell_of marked.held) (shape I.projections self.new)) }
         ensures local { IfSome result (λ marked. self.old.scope.items ≡ self.new.scope.items ++ marked ∷ []) }
-        ensures within { IfSome result (λ marked. token.0 ≤ length (shape self.new).scope) }
-        ensures same { IfNone result (shape self.new ≡ shape self.old) }
-        ensures none { IfNone result (length (shape self.old).scope ≤ token.0) }
+        ensures within { IfSome result (λ marked. token.0 ≤ length (shape I.projections self.new).scope) }
+        ensures same { IfNone result (shape I.projections self.new ≡ shape I.projections self.old) }
+        ensures none { IfNone result (length (shape I.projections self.old).scope ≤ token.0) }
     {
         if self.scope.len() > token.0 {
             self.scope.pop()
@@ -367,7 +371,7 @@ impl Graph {
 
     /// Enters a loop or a labelled block.
     pub fn push_loop(&mut self, blocks: LoopBlocks) -> Result<(), NoMemory>
-        ensures { OnOk result (shape self.new ≡ with_targets (target_of_blocks blocks ∷ (shape self.old).targets) (shape self.old)) }
+        ensures { OnOk result (shape I.projections self.new ≡ with_targets (target_of_blocks blocks ∷ (shape I.projections self.old).targets) (shape I.projections self.old)) }
     {
         self.loops.push(blocks)?;
         Ok(())
@@ -375,16 +379,16 @@ impl Graph {
 
     /// Leaves the innermost loop or labelled block. It takes no memory.
     pub fn pop_loop(&mut self)
-        ensures rest { shape self.new ≡ with_targets (shape self.new).targets (shape self.old) }
-        ensures outer { (first : OpenTarget) (outer : List OpenTarget) → (shape self.old).targets ≡ first ∷ outer → shape self.new ≡ with_targets outer (shape self.old) }
-        ensures none { (shape self.old).targets ≡ [] → shape self.new ≡ shape self.old }
+        ensures rest { shape I.projections self.new ≡ with_targets (shape I.projections self.new).targets (shape I.projections self.old) }
+        ensures outer { (first : OpenTarget) (outer : List OpenTarget) → (shape I.projections self.old).targets ≡ first ∷ outer → shape I.projections self.new ≡ with_targets outer (shape I.projections self.old) }
+        ensures none { (shape I.projections self.old).targets ≡ [] → shape I.projections self.new ≡ shape I.projections self.old }
     {
         self.loops.pop();
     }
 
     /// The innermost loop or labelled block that a jump means: the one with its label, or any where it has none.
     pub fn innermost(&self, label: Option<LabelId>) -> Option<LoopBlocks>
-        ensures { option_map target_of_blocks result ≡ meant_target label (shape self.now).targets }
+        ensures { option_map target_of_blocks result ≡ meant_target label (shape I.projections self.now).targets }
     {
         let mut left = self.loops.len();
         while left > 0 {
@@ -400,27 +404,31 @@ impl Graph {
     /// A place within another one, whose projection is one of the graph's: what an element leads to from there. A projection that would
     /// be the 2^32nd has no id: `NoMemory`.
     pub fn project(&mut self, place: Place, elem: PlaceElem) -> Result<Place, NoMemory>
-        requires { HasId self.old.projections.projections place.projection }
-        ensures { IfOk result (λ made. IsProjected (shape self.old) (shape self.new) place elem made) }
+        requires { HasId (I.projections self.old.projections) place.projection }
+        ensures { IfOk result (λ made. IsProjected (shape I.projections self.old) (shape I.projections self.new) place elem made) }
     {
         if self.projections.count() >= u32::MAX as u64 {
             return Err(NoMemory);
         }
-        let projection = place.projection.project(elem, &mut self.projections)?;
+        let projection = self.projections.project_in(place.projection, elem)?;
         Ok(Place {
             local: place.local,
             projection,
         })
     }
+}
+
+impl Graph<ProjectionStore> {
+    ghost use Rattle.mir.specs.ProjectionIds.{projections_of};
 
     /// The body with these blocks, locals and projections; some of the locals are the parameters'. It takes no memory.
     pub fn into_body(self, owner: DefWithBodyId, params: List<LocalId>) -> MirBody
-        ensures blocks { result.basic_blocks ≡ (shape self).blocks }
-        ensures locals { result.locals ≡ (shape self).locals }
+        ensures blocks { result.basic_blocks ≡ (shape projections_of self).blocks }
+        ensures locals { result.locals ≡ (shape projections_of self).locals }
         ensures start { result.start_block.0 ≡ 0 }
         ensures owner { result.owner ≡ owner }
         ensures params { result.param_locals ≡ params }
-        ensures projections { result.projection_store.projections ≡ (shape self).projections }
+        ensures projections { result.projection_store.projections ≡ (shape projections_of self).projections }
     {
         let Graph {
             blocks,

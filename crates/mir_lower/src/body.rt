@@ -15,7 +15,9 @@ use crate::leave::leave_scope;
 use crate::lower::lower_into;
 use crate::params::lower_params;
 use body_forms::{Context, form_not_built, is_copy};
-use mir::{Local, LocalId, MirBody, MirLowerError, MirSpan, Terminator, TerminatorKind};
+use mir::{
+    Local, LocalId, MirBody, MirLowerError, MirSpan, ProjectionStore, Terminator, TerminatorKind,
+};
 use std::alloc::Global;
 use world::{Body, DefWithBodyId, HirDatabase, InferenceResult};
 
@@ -93,7 +95,8 @@ fn lower_body(context: &Context<'_>, owner: DefWithBodyId) -> Result<MirBody, Mi
     ensures refused { IfErr result (λ error. RefusesParameters (source_of context.now) error ⊎ RefusesAt (source_of context.now) (root (source_of context.now)) error) }
 {
     let start = context.body.body_expr;
-    let mut graph = first_graph(context)?;
+    let store = ProjectionStore::new(context.alloc)?;
+    let mut graph = first_graph(context, store)?;
     let scope = graph.push_drop_scope();
     let params = lower_params(context, &mut graph)?;
     lower_into(context, &mut graph, start, LocalId(0))?;

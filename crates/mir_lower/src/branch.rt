@@ -10,7 +10,8 @@ ghost use Rattle.mir_lower.specs.Growth.{IsSound, IsOpen};
 
 use body_forms::Context;
 use mir::{
-    BasicBlockId, MirLowerError, MirSpan, Operand, SwitchTargets, Terminator, TerminatorKind,
+    BasicBlockId, Interner, MirLowerError, MirSpan, Operand, SwitchTargets, Terminator,
+    TerminatorKind,
 };
 use mir_graph::Graph;
 use world::ExprId;
@@ -23,16 +24,16 @@ pub(crate) struct Branches {
 }
 
 /// Ends the current block by a test whether an operand is a number, and opens the block for the case that it is.
-pub(crate) fn fork(
+pub(crate) fn fork<I: Interner>(
     context: &Context<'_>,
-    graph: &mut Graph,
+    graph: &mut Graph<I>,
     discr: Operand,
     number: u128,
     e: ExprId,
 ) -> Result<Branches, MirLowerError>
-    requires sound { IsSound (source_of context.now) (shape graph.old) }
-    requires opened { IsOpen (shape graph.old) }
-    ensures forked { IfOk result (λ branches. IsForked (source_of context.now) (shape graph.old) (shape graph.new) discr.kind number branches.other.0 branches.join.0) }
+    requires sound { IsSound (source_of context.now) (shape I.projections graph.old) }
+    requires opened { IsOpen (shape I.projections graph.old) }
+    ensures forked { IfOk result (λ branches. IsForked (source_of context.now) (shape I.projections graph.old) (shape I.projections graph.new) discr.kind number branches.other.0 branches.join.0) }
     ensures refused { IfErr result (λ error. error ≡ refusal.NoMemory) }
 {
     let taken = graph.reserve_block(context.alloc)?;
@@ -48,10 +49,15 @@ pub(crate) fn fork(
 }
 
 /// Ends the current block, which leads to a block without a test, and opens a reserved block. It takes no memory.
-pub(crate) fn go_on(graph: &mut Graph, to: BasicBlockId, next: BasicBlockId, e: ExprId)
-    requires opened { IsOpen (shape graph.old) }
-    requires reserved { IsReserved (shape graph.old) next.0 }
-    ensures { (source : Source) → IsSound source (shape graph.old) → HasGoneOn source (shape graph.old) (shape graph.new) to.0 next.0 }
+pub(crate) fn go_on<I: Interner>(
+    graph: &mut Graph<I>,
+    to: BasicBlockId,
+    next: BasicBlockId,
+    e: ExprId,
+)
+    requires opened { IsOpen (shape I.projections graph.old) }
+    requires reserved { IsReserved (shape I.projections graph.old) next.0 }
+    ensures { (source : Source) → IsSound source (shape I.projections graph.old) → HasGoneOn source (shape I.projections graph.old) (shape I.projections graph.new) to.0 next.0 }
 {
     graph.set_terminator(Terminator {
         span: MirSpan::ExprId(e),

@@ -9,7 +9,7 @@ ghost use Rattle.mir_graph.specs.Graph.{shape, with_block, with_terminator};
 ghost use Rattle.mir_lower.specs.Growth.{IsOpen};
 
 use body_forms::{Context, must_not_return};
-use mir::{BasicBlockId, LocalId, MirSpan, Operand, Place, Terminator, TerminatorKind};
+use mir::{BasicBlockId, Interner, LocalId, MirSpan, Operand, Place, Terminator, TerminatorKind};
 use mir_graph::Graph;
 use std::alloc::Global;
 use world::{ExprId, List, NoMemory};
@@ -27,17 +27,17 @@ fn target_of_call(context: &Context<'_>, e: ExprId, next: BasicBlockId) -> Optio
 
 /// Ends the current block by a call, and opens a new one, which is the call's target where it has one. A block that would be the
 /// 2^32nd has no id: `NoMemory`.
-fn end_by_call(
+fn end_by_call<I: Interner>(
     alloc: Global,
-    graph: &mut Graph,
+    graph: &mut Graph<I>,
     e: ExprId,
     func: Operand,
     args: List<Operand>,
     to: LocalId,
     target: Option<BasicBlockId>,
 ) -> Result<(), NoMemory>
-    requires { IsOpen (shape graph.old) }
-    ensures { OnOk result (shape graph.new ≡ with_block (with_terminator (call_terminator e func args (whole_place to) target) (shape graph.old))) }
+    requires { IsOpen (shape I.projections graph.old) }
+    ensures { OnOk result (shape I.projections graph.new ≡ with_block (with_terminator (call_terminator e func args (whole_place to) target) (shape I.projections graph.old))) }
 {
     graph.set_terminator(Terminator {
         span: MirSpan::ExprId(e),
@@ -55,16 +55,16 @@ fn end_by_call(
 
 /// Ends the current block by a call of the function that an operand names. What follows goes into a new block: the call's target, or,
 /// where the callee must not return, one that nothing leads to.
-pub(crate) fn call(
+pub(crate) fn call<I: Interner>(
     context: &Context<'_>,
-    graph: &mut Graph,
+    graph: &mut Graph<I>,
     e: ExprId,
     func: Operand,
     args: List<Operand>,
     to: LocalId,
 ) -> Result<(), NoMemory>
-    requires { IsOpen (shape graph.old) }
-    ensures { OnOk result ((next : _) × (next.0 ≡ length (shape graph.old).blocks) × (shape graph.new ≡ with_block (with_terminator (call_terminator e func args (whole_place to) (target_of_call (must_not_return (source_of context.now) e.0) next)) (shape graph.old)))) }
+    requires { IsOpen (shape I.projections graph.old) }
+    ensures { OnOk result ((next : _) × (next.0 ≡ length (shape I.projections graph.old).blocks) × (shape I.projections graph.new ≡ with_block (with_terminator (call_terminator e func args (whole_place to) (target_of_call (must_not_return (source_of context.now) e.0) next)) (shape I.projections graph.old)))) }
 {
     let count = graph.blocks.len();
     if count >= u32::MAX as usize {

@@ -11,22 +11,22 @@ ghost use Rattle.mir_lower.specs.Jumps.{IsEntered, HasJumped, HasReturned, witho
 use crate::branch::go_on;
 use crate::leave::leave_marked;
 use body_forms::Context;
-use mir::{BasicBlockId, LocalId, MirLowerError, MirSpan, Terminator, TerminatorKind};
+use mir::{BasicBlockId, Interner, LocalId, MirLowerError, MirSpan, Terminator, TerminatorKind};
 use mir_graph::{DropScopeToken, Graph, LoopBlocks};
 use world::{ExprId, LabelId, NoMemory};
 
 /// Enters a loop or a labelled block: the current block leads to the one where it begins, which is opened. The block behind it
 /// is reserved.
-pub(crate) fn enter_loop(
+pub(crate) fn enter_loop<I: Interner>(
     context: &Context<'_>,
-    graph: &mut Graph,
+    graph: &mut Graph<I>,
     node: ExprId,
     label: Option<LabelId>,
     to: LocalId,
 ) -> Result<LoopBlocks, NoMemory>
-    requires sound { IsSound (source_of context.now) (shape graph.old) }
-    requires opened { IsOpen (shape graph.old) }
-    ensures entered { IfOk result (λ blocks. IsEntered (source_of context.now) (shape graph.old) (shape graph.new) (target_of_blocks blocks)) }
+    requires sound { IsSound (source_of context.now) (shape I.projections graph.old) }
+    requires opened { IsOpen (shape I.projections graph.old) }
+    ensures entered { IfOk result (λ blocks. IsEntered (source_of context.now) (shape I.projections graph.old) (shape I.projections graph.new) (target_of_blocks blocks)) }
     ensures node { IfOk result (λ blocks. blocks.node ≡ node) }
     ensures label { IfOk result (λ blocks. blocks.label ≡ label) }
     ensures value { IfOk result (λ blocks. blocks.to ≡ to) }
@@ -48,24 +48,24 @@ pub(crate) fn enter_loop(
 
 /// Leaves the innermost loop or labelled block: the current block leads to another one, and the block behind the loop is opened.
 /// It takes no memory.
-pub(crate) fn leave_loop(graph: &mut Graph, blocks: LoopBlocks, to: BasicBlockId)
-    requires opened { IsOpen (shape graph.old) }
-    requires reserved { IsReserved (shape graph.old) blocks.end.0 }
-    ensures { (source : Source) (first : OpenTarget) (outer : List OpenTarget) → IsSound source (shape graph.old) → (shape graph.old).targets ≡ first ∷ outer
-        → HasGoneOn source (with_targets outer (shape graph.old)) (shape graph.new) to.0 blocks.end.0 }
+pub(crate) fn leave_loop<I: Interner>(graph: &mut Graph<I>, blocks: LoopBlocks, to: BasicBlockId)
+    requires opened { IsOpen (shape I.projections graph.old) }
+    requires reserved { IsReserved (shape I.projections graph.old) blocks.end.0 }
+    ensures { (source : Source) (first : OpenTarget) (outer : List OpenTarget) → IsSound source (shape I.projections graph.old) → (shape I.projections graph.old).targets ≡ first ∷ outer
+        → HasGoneOn source (with_targets outer (shape I.projections graph.old)) (shape I.projections graph.new) to.0 blocks.end.0 }
 {
     graph.pop_loop();
     go_on(graph, to, blocks.end, blocks.node);
 }
 
 /// The loop or labelled block that a jump means.
-pub(crate) fn target_of_jump(
-    graph: &Graph,
+pub(crate) fn target_of_jump<I: Interner>(
+    graph: &Graph<I>,
     label: Option<LabelId>,
     unlabelled: MirLowerError,
 ) -> Result<LoopBlocks, MirLowerError>
-    ensures found { IfOk result (λ blocks. meant_target label (shape graph.now).targets ≡ Some (target_of_blocks blocks)) }
-    ensures missing { IfErr result (λ error. meant_target label (shape graph.now).targets ≡ None) }
+    ensures found { IfOk result (λ blocks. meant_target label (shape I.projections graph.now).targets ≡ Some (target_of_blocks blocks)) }
+    ensures missing { IfErr result (λ error. meant_target label (shape I.projections graph.now).targets ≡ None) }
     ensures refused { IfErr result (λ error. error ≡ without_target label unlabelled) }
 {
     match graph.innermost(label) {
@@ -79,16 +79,16 @@ pub(crate) fn target_of_jump(
 
 /// Jumps to a block: all scopes inside the target are left, and what follows goes into a new block that nothing leads to. A block
 /// that would be the 2^32nd has no id: `NoMemory`.
-pub(crate) fn jump(
+pub(crate) fn jump<I: Interner>(
     context: &Context<'_>,
-    graph: &mut Graph,
+    graph: &mut Graph<I>,
     drop_scope: DropScopeToken,
     to: BasicBlockId,
     e: ExprId,
 ) -> Result<(), NoMemory>
-    requires sound { IsSound (source_of context.now) (shape graph.old) }
-    requires opened { IsOpen (shape graph.old) }
-    ensures { OnOk result (HasJumped (source_of context.now) (shape graph.old) (shape graph.new) to.0 (drops (source_of context.now) (drop drop_scope.0 (shape graph.old).scope))) }
+    requires sound { IsSound (source_of context.now) (shape I.projections graph.old) }
+    requires opened { IsOpen (shape I.projections graph.old) }
+    ensures { OnOk result (HasJumped (source_of context.now) (shape I.projections graph.old) (shape I.projections graph.new) to.0 (drops (source_of context.now) (drop drop_scope.0 (shape I.projections graph.old).scope))) }
 {
     leave_marked(context, graph, drop_scope, e)?;
     graph.set_terminator(Terminator {
@@ -100,14 +100,14 @@ pub(crate) fn jump(
 
 /// Returns from the body: all open scopes are left, and what follows goes into a new block that nothing leads to. A block that would
 /// be the 2^32nd has no id: `NoMemory`.
-pub(crate) fn return_from(
+pub(crate) fn return_from<I: Interner>(
     context: &Context<'_>,
-    graph: &mut Graph,
+    graph: &mut Graph<I>,
     e: ExprId,
 ) -> Result<(), NoMemory>
-    requires sound { IsSound (source_of context.now) (shape graph.old) }
-    requires opened { IsOpen (shape graph.old) }
-    ensures { OnOk result (HasReturned (source_of context.now) (shape graph.old) (shape graph.new) (drops (source_of context.now) (shape graph.old).scope)) }
+    requires sound { IsSound (source_of context.now) (shape I.projections graph.old) }
+    requires opened { IsOpen (shape I.projections graph.old) }
+    ensures { OnOk result (HasReturned (source_of context.now) (shape I.projections graph.old) (shape I.projections graph.new) (drops (source_of context.now) (shape I.projections graph.old).scope)) }
 {
     leave_marked(context, graph, DropScopeToken(0), e)?;
     graph.set_terminator(Terminator {

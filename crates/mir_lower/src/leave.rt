@@ -13,7 +13,8 @@ ghost use Rattle.mir_lower.specs.Leaving.{Idles, one_if};
 
 use body_forms::{Context, binding_ty, is_copy, never_type, value_type};
 use mir::{
-    BasicBlockId, LocalId, MirSpan, Place, Statement, StatementKind, Terminator, TerminatorKind,
+    BasicBlockId, Interner, LocalId, MirSpan, Place, Statement, StatementKind, Terminator,
+    TerminatorKind,
 };
 use mir_graph::{DropScopeToken, Graph, Held, Marked};
 use std::alloc::Global;
@@ -52,10 +53,15 @@ fn is_dropped(context: &Context<'_>, held: Held) -> bool
 }
 
 /// Ends the current block by a drop, and goes on in a new one. A block that would be the 2^32nd has no id: `NoMemory`.
-fn drop_local(alloc: Global, graph: &mut Graph, local: LocalId, at: ExprId) -> Result<(), NoMemory>
-    requires { IsOpen (shape graph.old) }
-    ensures { OnOk result ((target : _) × (target.0 ≡ length (shape graph.old).blocks)
-        × (shape graph.new ≡ with_block (with_terminator (record { span = MirSpan.ExprId at; kind = Dropping (whole_place local) target None }) (shape graph.old)))) }
+fn drop_local<I: Interner>(
+    alloc: Global,
+    graph: &mut Graph<I>,
+    local: LocalId,
+    at: ExprId,
+) -> Result<(), NoMemory>
+    requires { IsOpen (shape I.projections graph.old) }
+    ensures { OnOk result ((target : _) × (target.0 ≡ length (shape I.projections graph.old).blocks)
+        × (shape I.projections graph.new ≡ with_block (with_terminator (record { span = MirSpan.ExprId at; kind = Dropping (whole_place local) target None }) (shape I.projections graph.old)))) }
 {
     let count = graph.blocks.len();
     if count >= u32::MAX as usize {
@@ -74,15 +80,15 @@ fn drop_local(alloc: Global, graph: &mut Graph, local: LocalId, at: ExprId) -> R
 }
 
 /// Drops a local of the scope, where its type isn't `Copy`.
-fn drop_if_needed(
+fn drop_if_needed<I: Interner>(
     context: &Context<'_>,
-    graph: &mut Graph,
+    graph: &mut Graph<I>,
     marked: Marked,
     at: ExprId,
 ) -> Result<(), NoMemory>
-    requires sound { IsSound (source_of context.now) (shape graph.old) }
-    requires opened { IsOpen (shape graph.old) }
-    ensures { OnOk result (Idles (source_of context.now) (shape graph.old) (shape graph.new) (one_if (is_dropped (source_of context.now) (cell_of marked.held)))) }
+    requires sound { IsSound (source_of context.now) (shape I.projections graph.old) }
+    requires opened { IsOpen (shape I.projections graph.old) }
+    ensures { OnOk result (Idles (source_of context.now) (shape I.projections graph.old) (shape I.projections graph.new) (one_if (is_dropped (source_of context.now) (cell_of marked.held)))) }
 {
     let needed = is_dropped(context, marked.held);
     if needed {
@@ -93,15 +99,15 @@ fn drop_if_needed(
 }
 
 /// Ends what one local of the scope needs: its drop, where its type isn't `Copy`, and its storage.
-fn leave_local(
+fn leave_local<I: Interner>(
     context: &Context<'_>,
-    graph: &mut Graph,
+    graph: &mut Graph<I>,
     marked: Marked,
     at: ExprId,
 ) -> Result<(), NoMemory>
-    requires sound { IsSound (source_of context.now) (shape graph.old) }
-    requires opened { IsOpen (shape graph.old) }
-    ensures { OnOk result (Idles (source_of context.now) (shape graph.old) (shape graph.new) (one_if (is_dropped (source_of context.now) (cell_of marked.held)))) }
+    requires sound { IsSound (source_of context.now) (shape I.projections graph.old) }
+    requires opened { IsOpen (shape I.projections graph.old) }
+    ensures { OnOk result (Idles (source_of context.now) (shape I.projections graph.old) (shape I.projections graph.new) (one_if (is_dropped (source_of context.now) (cell_of marked.held)))) }
 {
     drop_if_needed(context, graph, marked, at)?;
     graph.push_statement(Statement {
@@ -112,15 +118,15 @@ fn leave_local(
 
 /// What leaving a scope and those inside it does, while their locals stay marked: where a jump leaves them, other code is still
 /// inside.
-pub(crate) fn leave_marked(
+pub(crate) fn leave_marked<I: Interner>(
     context: &Context<'_>,
-    graph: &mut Graph,
+    graph: &mut Graph<I>,
     token: DropScopeToken,
     at: ExprId,
 ) -> Result<(), NoMemory>
-    requires sound { IsSound (source_of context.now) (shape graph.old) }
-    requires opened { IsOpen (shape graph.old) }
-    ensures { OnOk result (Idles (source_of context.now) (shape graph.old) (shape graph.new) (drops (source_of context.now) (drop token.0 (shape graph.old).scope))) }
+    requires sound { IsSound (source_of context.now) (shape I.projections graph.old) }
+    requires opened { IsOpen (shape I.projections graph.old) }
+    ensures { OnOk result (Idles (source_of context.now) (shape I.projections graph.old) (shape I.projections graph.new) (drops (source_of context.now) (drop token.0 (shape I.projections graph.old).scope))) }
 {
     let mut left = graph.scope.len();
     while left > token.0 {
@@ -133,16 +139,16 @@ pub(crate) fn leave_marked(
 
 /// Leaves a scope and those inside it: their locals from the last back. Those that were in use when the scope was
 /// opened stay.
-pub(crate) fn leave_scope(
+pub(crate) fn leave_scope<I: Interner>(
     context: &Context<'_>,
-    graph: &mut Graph,
+    graph: &mut Graph<I>,
     token: DropScopeToken,
     at: ExprId,
 ) -> Result<(), NoMemory>
-    requires sound { IsSound (source_of context.now) (shape graph.old) }
-    requires opened { IsOpen (shape graph.old) }
-    requires within { token.0 ≤ length (shape graph.old).scope }
-    ensures { OnOk result (Idles (source_of context.now) (with_scope (take token.0 (shape graph.old).scope) (shape graph.old)) (shape graph.new) (drops (source_of context.now) (drop token.0 (shape graph.old).scope))) }
+    requires sound { IsSound (source_of context.now) (shape I.projections graph.old) }
+    requires opened { IsOpen (shape I.projections graph.old) }
+    requires within { token.0 ≤ length (shape I.projections graph.old).scope }
+    ensures { OnOk result (Idles (source_of context.now) (with_scope (take token.0 (shape I.projections graph.old).scope) (shape I.projections graph.old)) (shape I.projections graph.new) (drops (source_of context.now) (drop token.0 (shape I.projections graph.old).scope))) }
 {
     while let Some(marked) = graph.pop_mark(token) {
         leave_local(context, graph, marked, at)?;

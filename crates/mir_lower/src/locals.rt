@@ -22,20 +22,21 @@ use body_forms::{
     Context, compound_path, form_not_built, name_bound, node_ty, own_ty, target_path,
 };
 use mir::{
-    LocalId, MirLowerError, MirSpan, Operand, OperandKind, Place, Rvalue, Statement, StatementKind,
+    Interner, LocalId, MirLowerError, MirSpan, Operand, OperandKind, Place, Rvalue, Statement,
+    StatementKind,
 };
 use mir_graph::{Graph, Held};
 use world::{BindingId, ExprId, PatId, Text, TryClone, ValueNs};
 
 /// Adds an assignment to a place.
-pub(crate) fn write(
-    graph: &mut Graph,
+pub(crate) fn write<I: Interner>(
+    graph: &mut Graph<I>,
     to: Place,
     rvalue: Rvalue,
     span: MirSpan,
 ) -> Result<(), MirLowerError>
-    requires { IsOpen (shape graph.old) }
-    ensures added { OnOk result (shape graph.new ≡ with_statement (record { kind = Assign to rvalue; span = span }) (shape graph.old)) }
+    requires { IsOpen (shape I.projections graph.old) }
+    ensures added { OnOk result (shape I.projections graph.new ≡ with_statement (record { kind = Assign to rvalue; span = span }) (shape I.projections graph.old)) }
     ensures refused { IfErr result (λ error. error ≡ refusal.NoMemory) }
 {
     graph.push_statement(Statement {
@@ -46,14 +47,14 @@ pub(crate) fn write(
 }
 
 /// Adds an assignment to a local.
-pub(crate) fn assign(
-    graph: &mut Graph,
+pub(crate) fn assign<I: Interner>(
+    graph: &mut Graph<I>,
     to: LocalId,
     rvalue: Rvalue,
     span: MirSpan,
 ) -> Result<(), MirLowerError>
-    requires { IsOpen (shape graph.old) }
-    ensures added { OnOk result (shape graph.new ≡ with_statement (record { kind = Assign (whole_place to) rvalue; span = span }) (shape graph.old)) }
+    requires { IsOpen (shape I.projections graph.old) }
+    ensures added { OnOk result (shape I.projections graph.new ≡ with_statement (record { kind = Assign (whole_place to) rvalue; span = span }) (shape I.projections graph.old)) }
     ensures refused { IfErr result (λ error. error ≡ refusal.NoMemory) }
 {
     write(graph, Place::from(to), rvalue, span)
@@ -81,15 +82,15 @@ fn binding_named(named: ValueNs) -> Option<BindingId>
 }
 
 /// The local that a path names: that of a binding.
-pub(crate) fn named_local(
+pub(crate) fn named_local<I: Interner>(
     context: &Context<'_>,
-    graph: &Graph,
+    graph: &Graph<I>,
     e: ExprId,
     name: &Text,
 ) -> Result<LocalId, MirLowerError>
-    requires sound { IsSound (source_of context.now) (shape graph.now) }
+    requires sound { IsSound (source_of context.now) (shape I.projections graph.now) }
     requires path { node (source_of context.now) e.0 ≡ Some (expr.Path name.now) }
-    ensures lowered { IfOk result (λ local. IsNamed (source_of context.now) (shape graph.now) e.0 local.0) }
+    ensures lowered { IfOk result (λ local. IsNamed (source_of context.now) (shape I.projections graph.now) e.0 local.0) }
     ensures built { OnOk result (NamesBinding (source_of context.now) e.0) }
     ensures refused { IfErr result (RefusesNode (source_of context.now) e.0) }
 {
@@ -106,16 +107,16 @@ pub(crate) fn named_local(
 }
 
 /// Adds `StorageLive` of a binding's local, in the innermost open scope.
-fn storage_live(
+fn storage_live<I: Interner>(
     context: &Context<'_>,
-    graph: &mut Graph,
+    graph: &mut Graph<I>,
     binding: BindingId,
     local: LocalId,
 ) -> Result<(), MirLowerError>
-    requires sound { IsSound (source_of context.now) (shape graph.old) }
-    requires opened { IsOpen (shape graph.old) }
-    requires found { local_of (shape graph.old) (Binding binding.0) ≡ Some local.0 }
-    ensures given { OnOk result (IsGiven (source_of context.now) (shape graph.old) (shape graph.new) (Binding binding.0) local.0) }
+    requires sound { IsSound (source_of context.now) (shape I.projections graph.old) }
+    requires opened { IsOpen (shape I.projections graph.old) }
+    requires found { local_of (shape I.projections graph.old) (Binding binding.0) ≡ Some local.0 }
+    ensures given { OnOk result (IsGiven (source_of context.now) (shape I.projections graph.old) (shape I.projections graph.new) (Binding binding.0) local.0) }
     ensures refused { IfErr result (λ error. error ≡ refusal.NoMemory) }
 {
     graph.mark(Held::Binding(binding), local)?;
@@ -127,14 +128,14 @@ fn storage_live(
 }
 
 /// Adds `StorageLive` of a local for the value of an expression, in the innermost open scope.
-pub(crate) fn new_temp(
+pub(crate) fn new_temp<I: Interner>(
     context: &Context<'_>,
-    graph: &mut Graph,
+    graph: &mut Graph<I>,
     e: ExprId,
 ) -> Result<LocalId, MirLowerError>
-    requires ready { IsReadyPart (source_of context.now) (shape graph.old) e.0 }
+    requires ready { IsReadyPart (source_of context.now) (shape I.projections graph.old) e.0 }
     requires form { is_place (unadjusted (source_of context.now) e.0) ≡ false }
-    ensures given { IfOk result (λ local. IsGiven (source_of context.now) (shape graph.old) (shape graph.new) (Node e.0) local.0) }
+    ensures given { IfOk result (λ local. IsGiven (source_of context.now) (shape I.projections graph.old) (shape I.projections graph.new) (Node e.0) local.0) }
     ensures refused { IfErr result (λ error. error ≡ refusal.NoMemory) }
 {
     let ty = node_ty(context, e).try_clone(context.alloc)?;
@@ -147,14 +148,14 @@ pub(crate) fn new_temp(
 }
 
 /// Adds `StorageLive` of a local for the `!` of an expression, in the innermost open scope.
-pub(crate) fn new_never(
+pub(crate) fn new_never<I: Interner>(
     context: &Context<'_>,
-    graph: &mut Graph,
+    graph: &mut Graph<I>,
     e: ExprId,
 ) -> Result<LocalId, MirLowerError>
-    requires ready { IsReady (source_of context.now) (shape graph.old) e.0 }
+    requires ready { IsReady (source_of context.now) (shape I.projections graph.old) e.0 }
     requires adjusted { diverges (source_of context.now) e.0 ≡ true }
-    ensures given { IfOk result (λ local. IsGiven (source_of context.now) (shape graph.old) (shape graph.new) (Never e.0) local.0) }
+    ensures given { IfOk result (λ local. IsGiven (source_of context.now) (shape I.projections graph.old) (shape I.projections graph.new) (Never e.0) local.0) }
     ensures refused { IfErr result (λ error. error ≡ refusal.NoMemory) }
 {
     let ty = own_ty(context, e).try_clone(context.alloc)?;
@@ -167,17 +168,17 @@ pub(crate) fn new_never(
 }
 
 /// Adds `StorageLive` of a local for the index of an index expression, in the innermost open scope.
-pub(crate) fn new_index(
+pub(crate) fn new_index<I: Interner>(
     context: &Context<'_>,
-    graph: &mut Graph,
+    graph: &mut Graph<I>,
     e: ExprId,
     index: ExprId,
 ) -> Result<LocalId, MirLowerError>
     requires checked { IsCheckedBody context.now.body.now context.now.infer.now }
-    requires sound { IsSound (source_of context.now) (shape graph.old) }
-    requires opened { IsOpen (shape graph.old) }
+    requires sound { IsSound (source_of context.now) (shape I.projections graph.old) }
+    requires opened { IsOpen (shape I.projections graph.old) }
     requires index { HasEvaluatedIndex (source_of context.now) e.0 index.0 }
-    ensures given { IfOk result (λ local. IsGiven (source_of context.now) (shape graph.old) (shape graph.new) (IndexOf e.0) local.0) }
+    ensures given { IfOk result (λ local. IsGiven (source_of context.now) (shape I.projections graph.old) (shape I.projections graph.new) (IndexOf e.0) local.0) }
     ensures refused { IfErr result (λ error. error ≡ refusal.NoMemory) }
 {
     let ty = node_ty(context, index).try_clone(context.alloc)?;
@@ -190,9 +191,13 @@ pub(crate) fn new_index(
 }
 
 /// Notes that the value at a place was named.
-pub(crate) fn fake_read(graph: &mut Graph, place: Place, e: ExprId) -> Result<(), MirLowerError>
-    requires { IsOpen (shape graph.old) }
-    ensures added { OnOk result (shape graph.new ≡ with_statement (record { kind = FakeRead place; span = MirSpan.ExprId e }) (shape graph.old)) }
+pub(crate) fn fake_read<I: Interner>(
+    graph: &mut Graph<I>,
+    place: Place,
+    e: ExprId,
+) -> Result<(), MirLowerError>
+    requires { IsOpen (shape I.projections graph.old) }
+    ensures added { OnOk result (shape I.projections graph.new ≡ with_statement (record { kind = FakeRead place; span = MirSpan.ExprId e }) (shape I.projections graph.old)) }
     ensures refused { IfErr result (λ error. error ≡ refusal.NoMemory) }
 {
     graph.push_statement(Statement {
@@ -203,16 +208,16 @@ pub(crate) fn fake_read(graph: &mut Graph, place: Place, e: ExprId) -> Result<()
 }
 
 /// A name pattern is bound: the bytes of a place are copied to the binding's local.
-pub(crate) fn bind(
+pub(crate) fn bind<I: Interner>(
     context: &Context<'_>,
-    graph: &mut Graph,
+    graph: &mut Graph<I>,
     pat: PatId,
     from: Place,
 ) -> Result<(), MirLowerError>
-    requires sound { IsSound (source_of context.now) (shape graph.old) }
-    requires opened { IsOpen (shape graph.old) }
-    ensures lowered { OnOk result ((at : SourcePlace) → IsAt (shape graph.old) from at
-        → Binds (source_of context.now) (shape graph.old) (shape graph.new) pat.0 at) }
+    requires sound { IsSound (source_of context.now) (shape I.projections graph.old) }
+    requires opened { IsOpen (shape I.projections graph.old) }
+    ensures lowered { OnOk result ((at : SourcePlace) → IsAt (shape I.projections graph.old) from at
+        → Binds (source_of context.now) (shape I.projections graph.old) (shape I.projections graph.new) pat.0 at) }
     ensures built { OnOk result (BindsBinding (source_of context.now) pat.0) }
     ensures refused { IfErr result (RefusesPattern (source_of context.now) pat.0) }
 {
@@ -231,13 +236,13 @@ pub(crate) fn bind(
 }
 
 /// The local that the path names which the target of an assignment is: that of a binding.
-pub(crate) fn target_local(
+pub(crate) fn target_local<I: Interner>(
     context: &Context<'_>,
-    graph: &Graph,
+    graph: &Graph<I>,
     pat: PatId,
 ) -> Result<LocalId, MirLowerError>
-    requires { IsSound (source_of context.now) (shape graph.now) }
-    ensures lowered { IfOk result (λ local. IsTargeted (source_of context.now) (shape graph.now) pat.0 local.0) }
+    requires { IsSound (source_of context.now) (shape I.projections graph.now) }
+    ensures lowered { IfOk result (λ local. IsTargeted (source_of context.now) (shape I.projections graph.now) pat.0 local.0) }
     ensures built { OnOk result (AssignsBinding (source_of context.now) pat.0) }
     ensures refused { IfErr result (RefusesTarget (source_of context.now) pat.0) }
 {
@@ -257,13 +262,13 @@ pub(crate) fn target_local(
 }
 
 /// The local that the path names which the target of a compound assignment is: that of a binding.
-pub(crate) fn combined_local(
+pub(crate) fn combined_local<I: Interner>(
     context: &Context<'_>,
-    graph: &Graph,
+    graph: &Graph<I>,
     e: ExprId,
 ) -> Result<LocalId, MirLowerError>
-    requires { IsSound (source_of context.now) (shape graph.now) }
-    ensures lowered { IfOk result (λ local. IsCombinedIn (source_of context.now) (shape graph.now) e.0 local.0) }
+    requires { IsSound (source_of context.now) (shape I.projections graph.now) }
+    ensures lowered { IfOk result (λ local. IsCombinedIn (source_of context.now) (shape I.projections graph.now) e.0 local.0) }
     ensures built { OnOk result (CombinesBinding (source_of context.now) e.0) }
     ensures refused { IfErr result (RefusesCombined (source_of context.now) e.0) }
 {

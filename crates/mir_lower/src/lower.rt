@@ -41,21 +41,21 @@ use body_forms::{
 };
 use either::Either;
 use mir::{
-    AggregateKind, BinOp, LocalId, MirLowerError, MirSpan, Operand, OperandKind, Place, PlaceElem,
-    Rvalue,
+    AggregateKind, BinOp, Interner, LocalId, MirLowerError, MirSpan, Operand, OperandKind, Place,
+    PlaceElem, Rvalue,
 };
 use mir_graph::Graph;
 use world::{ExprId, LabelId, List, LogicOp, PatId, Statement, TryClone, VariantId};
 
 /// An expression as an operand: a literal as it stands, and any other by its place.
 #[cycle(lower)]
-pub(crate) fn lower_operand(
+pub(crate) fn lower_operand<I: Interner>(
     context: &Context<'_>,
-    graph: &mut Graph,
+    graph: &mut Graph<I>,
     e: ExprId,
 ) -> Result<Operand, MirLowerError>
-    requires { IsReadyPart (source_of context.now) (shape graph.old) e.0 }
-    ensures lowered { IfOk result (λ operand. LowersOperand (source_of context.now) (shape graph.old) (shape graph.new) e.0 operand.kind) }
+    requires { IsReadyPart (source_of context.now) (shape I.projections graph.old) e.0 }
+    ensures lowered { IfOk result (λ operand. LowersOperand (source_of context.now) (shape I.projections graph.old) (shape I.projections graph.new) e.0 operand.kind) }
     ensures built { OnOk result (IsBuilt (source_of context.now) e.0) }
     ensures refused { IfErr result (RefusesAt (source_of context.now) e.0) }
 {
@@ -70,9 +70,13 @@ pub(crate) fn lower_operand(
 
 /// An expression to a place: what a path names, a field or an element of its base's place, or a local of its own.
 #[cycle(lower)]
-fn lower_place(context: &Context<'_>, graph: &mut Graph, e: ExprId) -> Result<Place, MirLowerError>
-    requires { IsReadyPart (source_of context.now) (shape graph.old) e.0 }
-    ensures lowered { IfOk result (λ place. LowersPlace (source_of context.now) (shape graph.old) (shape graph.new) e.0 place) }
+fn lower_place<I: Interner>(
+    context: &Context<'_>,
+    graph: &mut Graph<I>,
+    e: ExprId,
+) -> Result<Place, MirLowerError>
+    requires { IsReadyPart (source_of context.now) (shape I.projections graph.old) e.0 }
+    ensures lowered { IfOk result (λ place. LowersPlace (source_of context.now) (shape I.projections graph.old) (shape I.projections graph.new) e.0 place) }
     ensures built { OnOk result (IsBuilt (source_of context.now) e.0) }
     ensures refused { IfErr result (RefusesAt (source_of context.now) e.0) }
 {
@@ -86,17 +90,17 @@ fn lower_place(context: &Context<'_>, graph: &mut Graph, e: ExprId) -> Result<Pl
 /// The place of a field or an element: its base's place, with one more element. The base, and the index of an element, are parts of the given expression, which is
 /// the field, or has it as its target.
 #[cycle(lower)]
-fn lower_field(
+fn lower_field<I: Interner>(
     context: &Context<'_>,
-    graph: &mut Graph,
+    graph: &mut Graph<I>,
     e: ExprId,
     base: ExprId,
     step: FieldStep,
 ) -> Result<Place, MirLowerError>
-    requires ready { ArePartsReady (source_of context.now) (shape graph.old) e.0 }
+    requires ready { ArePartsReady (source_of context.now) (shape I.projections graph.old) e.0 }
     requires parts { (child : ℕ) → Contains (field_parts base.0 (core_elem step)) child → Contains (parts_of (node (source_of context.now) e.0)) child }
     requires index { HasIndex (source_of context.now) (core_elem step) }
-    ensures lowered { IfOk result (λ place. LowersField (source_of context.now) (shape graph.old) (shape graph.new) base.0 (core_elem step) place) }
+    ensures lowered { IfOk result (λ place. LowersField (source_of context.now) (shape I.projections graph.old) (shape I.projections graph.new) base.0 (core_elem step) place) }
     ensures built { OnOk result (All (IsBuilt (source_of context.now)) (field_parts base.0 (core_elem step))) }
     ensures refused { IfErr result (RefusesAt (source_of context.now) e.0) }
 {
@@ -116,17 +120,17 @@ fn lower_field(
 /// The index of an element, evaluated into a local of its own. The index is a part of the given expression, which is the index expression `at`, or has
 /// it as its target.
 #[cycle(lower)]
-fn lower_index(
+fn lower_index<I: Interner>(
     context: &Context<'_>,
-    graph: &mut Graph,
+    graph: &mut Graph<I>,
     e: ExprId,
     at: ExprId,
     index: ExprId,
 ) -> Result<LocalId, MirLowerError>
-    requires ready { ArePartsReady (source_of context.now) (shape graph.old) e.0 }
+    requires ready { ArePartsReady (source_of context.now) (shape I.projections graph.old) e.0 }
     requires part { Contains (parts_of (node (source_of context.now) e.0)) index.0 }
     requires index { index_of (source_of context.now) at.0 ≡ Some index.0 }
-    ensures lowered { IfOk result (λ local. LowersIndex (source_of context.now) (shape graph.old) (shape graph.new) at.0 index.0 local.0) }
+    ensures lowered { IfOk result (λ local. LowersIndex (source_of context.now) (shape I.projections graph.old) (shape I.projections graph.new) at.0 index.0 local.0) }
     ensures built { OnOk result (IsBuilt (source_of context.now) index.0) }
     ensures refused { IfErr result (RefusesAt (source_of context.now) e.0) }
 {
@@ -137,18 +141,18 @@ fn lower_index(
 
 /// A field or an element evaluated into a local: the bytes of its place are copied.
 #[cycle(lower)]
-fn field_into(
+fn field_into<I: Interner>(
     context: &Context<'_>,
-    graph: &mut Graph,
+    graph: &mut Graph<I>,
     e: ExprId,
     base: ExprId,
     step: FieldStep,
     to: LocalId,
 ) -> Result<(), MirLowerError>
-    requires ready { IsReady (source_of context.now) (shape graph.old) e.0 }
+    requires ready { IsReady (source_of context.now) (shape I.projections graph.old) e.0 }
     requires form { node (source_of context.now) e.0 ≡ Some (expr.Field base.0 (core_elem step)) }
-    ensures lowered { OnOk result ((cell : Cell) → local_of (shape graph.old) cell ≡ Some to.0
-        → LowersOwn (source_of context.now) (shape graph.old) (shape graph.new) e.0 cell) }
+    ensures lowered { OnOk result ((cell : Cell) → local_of (shape I.projections graph.old) cell ≡ Some to.0
+        → LowersOwn (source_of context.now) (shape I.projections graph.old) (shape I.projections graph.new) e.0 cell) }
     ensures built { OnOk result (IsBuilt (source_of context.now) e.0) }
     ensures refused { IfErr result (RefusesAt (source_of context.now) e.0) }
 {
@@ -158,10 +162,14 @@ fn field_into(
 
 /// An expression that is no place goes into a local of its own, which is then its place.
 #[cycle(lower)]
-fn lower_temp(context: &Context<'_>, graph: &mut Graph, e: ExprId) -> Result<Place, MirLowerError>
-    requires ready { IsReadyPart (source_of context.now) (shape graph.old) e.0 }
+fn lower_temp<I: Interner>(
+    context: &Context<'_>,
+    graph: &mut Graph<I>,
+    e: ExprId,
+) -> Result<Place, MirLowerError>
+    requires ready { IsReadyPart (source_of context.now) (shape I.projections graph.old) e.0 }
     requires form { is_place (unadjusted (source_of context.now) e.0) ≡ false }
-    ensures lowered { IfOk result (λ place. LowersPlace (source_of context.now) (shape graph.old) (shape graph.new) e.0 place) }
+    ensures lowered { IfOk result (λ place. LowersPlace (source_of context.now) (shape I.projections graph.old) (shape I.projections graph.new) e.0 place) }
     ensures built { OnOk result (IsBuilt (source_of context.now) e.0) }
     ensures refused { IfErr result (RefusesAt (source_of context.now) e.0) }
 {
@@ -172,16 +180,16 @@ fn lower_temp(context: &Context<'_>, graph: &mut Graph, e: ExprId) -> Result<Pla
 
 /// An expression evaluated into a local. What is adjusted by `NeverToAny` goes into a local of its own, and the given one isn't written.
 #[cycle(lower)]
-pub(crate) fn lower_into(
+pub(crate) fn lower_into<I: Interner>(
     context: &Context<'_>,
-    graph: &mut Graph,
+    graph: &mut Graph<I>,
     e: ExprId,
     to: LocalId,
 ) -> Result<(), MirLowerError>
-    requires ready { IsReady (source_of context.now) (shape graph.old) e.0 }
-    requires placed { IsPlaced (shape graph.old) to.0 }
-    ensures lowered { OnOk result ((cell : Cell) → local_of (shape graph.old) cell ≡ Some to.0
-        → LowersInto (source_of context.now) (shape graph.old) (shape graph.new) e.0 cell) }
+    requires ready { IsReady (source_of context.now) (shape I.projections graph.old) e.0 }
+    requires placed { IsPlaced (shape I.projections graph.old) to.0 }
+    ensures lowered { OnOk result ((cell : Cell) → local_of (shape I.projections graph.old) cell ≡ Some to.0
+        → LowersInto (source_of context.now) (shape I.projections graph.old) (shape I.projections graph.new) e.0 cell) }
     ensures built { OnOk result (IsBuilt (source_of context.now) e.0) }
     ensures refused { IfErr result (RefusesAt (source_of context.now) e.0) }
 {
@@ -195,16 +203,16 @@ pub(crate) fn lower_into(
 
 /// An expression itself evaluated into a local, as it is before its value is adjusted.
 #[cycle(lower)]
-fn lower_own(
+fn lower_own<I: Interner>(
     context: &Context<'_>,
-    graph: &mut Graph,
+    graph: &mut Graph<I>,
     e: ExprId,
     to: LocalId,
 ) -> Result<(), MirLowerError>
-    requires ready { IsReady (source_of context.now) (shape graph.old) e.0 }
-    requires placed { IsPlaced (shape graph.old) to.0 }
-    ensures lowered { OnOk result ((cell : Cell) → local_of (shape graph.old) cell ≡ Some to.0
-        → LowersOwn (source_of context.now) (shape graph.old) (shape graph.new) e.0 cell) }
+    requires ready { IsReady (source_of context.now) (shape I.projections graph.old) e.0 }
+    requires placed { IsPlaced (shape I.projections graph.old) to.0 }
+    ensures lowered { OnOk result ((cell : Cell) → local_of (shape I.projections graph.old) cell ≡ Some to.0
+        → LowersOwn (source_of context.now) (shape I.projections graph.old) (shape I.projections graph.new) e.0 cell) }
     ensures built { OnOk result (IsBuilt (source_of context.now) e.0) }
     ensures refused { IfErr result (RefusesAt (source_of context.now) e.0) }
 {
@@ -257,18 +265,18 @@ fn lower_own(
 
 /// An operation on one operand: the operand, and then the operation.
 #[cycle(lower)]
-fn lower_single(
+fn lower_single<I: Interner>(
     context: &Context<'_>,
-    graph: &mut Graph,
+    graph: &mut Graph<I>,
     e: ExprId,
     single: Single,
     operand: ExprId,
     to: LocalId,
 ) -> Result<(), MirLowerError>
-    requires ready { IsReady (source_of context.now) (shape graph.old) e.0 }
+    requires ready { IsReady (source_of context.now) (shape I.projections graph.old) e.0 }
     requires form { node (source_of context.now) e.0 ≡ Some (expr.Strict (single_operation single) (operand.0 ∷ [])) }
-    ensures lowered { OnOk result ((cell : Cell) → local_of (shape graph.old) cell ≡ Some to.0
-        → LowersOwn (source_of context.now) (shape graph.old) (shape graph.new) e.0 cell) }
+    ensures lowered { OnOk result ((cell : Cell) → local_of (shape I.projections graph.old) cell ≡ Some to.0
+        → LowersOwn (source_of context.now) (shape I.projections graph.old) (shape I.projections graph.new) e.0 cell) }
     ensures built { OnOk result (IsBuilt (source_of context.now) e.0) }
     ensures refused { IfErr result (RefusesAt (source_of context.now) e.0) }
 {
@@ -279,18 +287,18 @@ fn lower_single(
 
 /// A tuple or an array: the operands of its parts from left to right, and then the aggregate of all.
 #[cycle(lower)]
-fn lower_aggregate(
+fn lower_aggregate<I: Interner>(
     context: &Context<'_>,
-    graph: &mut Graph,
+    graph: &mut Graph<I>,
     e: ExprId,
     several: Several,
     parts: &[ExprId],
     to: LocalId,
 ) -> Result<(), MirLowerError>
-    requires ready { IsReady (source_of context.now) (shape graph.old) e.0 }
+    requires ready { IsReady (source_of context.now) (shape I.projections graph.old) e.0 }
     requires form { node (source_of context.now) e.0 ≡ Some (expr.Strict (several_operation several) (expr_numbers parts.now)) }
-    ensures lowered { OnOk result ((cell : Cell) → local_of (shape graph.old) cell ≡ Some to.0
-        → LowersOwn (source_of context.now) (shape graph.old) (shape graph.new) e.0 cell) }
+    ensures lowered { OnOk result ((cell : Cell) → local_of (shape I.projections graph.old) cell ≡ Some to.0
+        → LowersOwn (source_of context.now) (shape I.projections graph.old) (shape I.projections graph.new) e.0 cell) }
     ensures built { OnOk result (IsBuilt (source_of context.now) e.0) }
     ensures refused { IfErr result (RefusesAt (source_of context.now) e.0) }
 {
@@ -306,18 +314,18 @@ fn lower_aggregate(
 
 /// A struct: the operands of its fields in the order in which they are written or passed to its constructor, and then the struct of all.
 #[cycle(lower)]
-fn lower_struct(
+fn lower_struct<I: Interner>(
     context: &Context<'_>,
-    graph: &mut Graph,
+    graph: &mut Graph<I>,
     e: ExprId,
     value: StructValue<'_>,
     to: LocalId,
 ) -> Result<(), MirLowerError>
-    requires ready { IsReady (source_of context.now) (shape graph.old) e.0 }
+    requires ready { IsReady (source_of context.now) (shape I.projections graph.old) e.0 }
     requires form { node (source_of context.now) e.0 ≡ core_form (Struct value) }
     requires given { IsSome (places_given value) }
-    ensures lowered { OnOk result ((cell : Cell) → local_of (shape graph.old) cell ≡ Some to.0
-        → LowersOwn (source_of context.now) (shape graph.old) (shape graph.new) e.0 cell) }
+    ensures lowered { OnOk result ((cell : Cell) → local_of (shape I.projections graph.old) cell ≡ Some to.0
+        → LowersOwn (source_of context.now) (shape I.projections graph.old) (shape I.projections graph.new) e.0 cell) }
     ensures built { OnOk result (IsBuilt (source_of context.now) e.0) }
     ensures refused { IfErr result (RefusesAt (source_of context.now) e.0) }
 {
@@ -329,19 +337,19 @@ fn lower_struct(
 
 /// A struct with a base: the base's place, the operands that are written, and then the struct of these and of fields of the base.
 #[cycle(lower)]
-fn lower_update(
+fn lower_update<I: Interner>(
     context: &Context<'_>,
-    graph: &mut Graph,
+    graph: &mut Graph<I>,
     e: ExprId,
     literal: StructLiteral<'_>,
     base: ExprId,
     to: LocalId,
 ) -> Result<(), MirLowerError>
-    requires ready { IsReady (source_of context.now) (shape graph.old) e.0 }
+    requires ready { IsReady (source_of context.now) (shape I.projections graph.old) e.0 }
     requires form { node (source_of context.now) e.0 ≡ core_form (Update literal base) }
     requires given { IsSome (literal_sources literal) }
-    ensures lowered { OnOk result ((cell : Cell) → local_of (shape graph.old) cell ≡ Some to.0
-        → LowersOwn (source_of context.now) (shape graph.old) (shape graph.new) e.0 cell) }
+    ensures lowered { OnOk result ((cell : Cell) → local_of (shape I.projections graph.old) cell ≡ Some to.0
+        → LowersOwn (source_of context.now) (shape I.projections graph.old) (shape I.projections graph.new) e.0 cell) }
     ensures built { OnOk result (IsBuilt (source_of context.now) e.0) }
     ensures refused { IfErr result (RefusesAt (source_of context.now) e.0) }
 {
@@ -362,19 +370,19 @@ fn lower_update(
 
 /// An operator on two operands: the operands from left to right, and then the operation.
 #[cycle(lower)]
-fn lower_binary(
+fn lower_binary<I: Interner>(
     context: &Context<'_>,
-    graph: &mut Graph,
+    graph: &mut Graph<I>,
     e: ExprId,
     op: BinOp,
     lhs: ExprId,
     rhs: ExprId,
     to: LocalId,
 ) -> Result<(), MirLowerError>
-    requires ready { IsReady (source_of context.now) (shape graph.old) e.0 }
+    requires ready { IsReady (source_of context.now) (shape I.projections graph.old) e.0 }
     requires form { node (source_of context.now) e.0 ≡ Some (expr.Strict (Combine op) (lhs.0 ∷ rhs.0 ∷ [])) }
-    ensures lowered { OnOk result ((cell : Cell) → local_of (shape graph.old) cell ≡ Some to.0
-        → LowersOwn (source_of context.now) (shape graph.old) (shape graph.new) e.0 cell) }
+    ensures lowered { OnOk result ((cell : Cell) → local_of (shape I.projections graph.old) cell ≡ Some to.0
+        → LowersOwn (source_of context.now) (shape I.projections graph.old) (shape I.projections graph.new) e.0 cell) }
     ensures built { OnOk result (IsBuilt (source_of context.now) e.0) }
     ensures refused { IfErr result (RefusesAt (source_of context.now) e.0) }
 {
@@ -390,20 +398,20 @@ fn lower_binary(
 
 /// `&&` or `||`: the left operand, a test of it, and then it is the value where it decides, and else the right operand.
 #[cycle(lower)]
-fn lower_logic(
+fn lower_logic<I: Interner>(
     context: &Context<'_>,
-    graph: &mut Graph,
+    graph: &mut Graph<I>,
     e: ExprId,
     op: LogicOp,
     lhs: ExprId,
     rhs: ExprId,
     to: LocalId,
 ) -> Result<(), MirLowerError>
-    requires ready { IsReady (source_of context.now) (shape graph.old) e.0 }
+    requires ready { IsReady (source_of context.now) (shape I.projections graph.old) e.0 }
     requires form { node (source_of context.now) e.0 ≡ Some (expr.Logic op lhs.0 rhs.0) }
-    requires placed { IsPlaced (shape graph.old) to.0 }
-    ensures lowered { OnOk result ((cell : Cell) → local_of (shape graph.old) cell ≡ Some to.0
-        → LowersOwn (source_of context.now) (shape graph.old) (shape graph.new) e.0 cell) }
+    requires placed { IsPlaced (shape I.projections graph.old) to.0 }
+    ensures lowered { OnOk result ((cell : Cell) → local_of (shape I.projections graph.old) cell ≡ Some to.0
+        → LowersOwn (source_of context.now) (shape I.projections graph.old) (shape I.projections graph.new) e.0 cell) }
     ensures built { OnOk result (IsBuilt (source_of context.now) e.0) }
     ensures refused { IfErr result (RefusesAt (source_of context.now) e.0) }
 {
@@ -419,20 +427,20 @@ fn lower_logic(
 
 /// An `if`: its condition, a test of it, and then a branch.
 #[cycle(lower)]
-fn lower_if(
+fn lower_if<I: Interner>(
     context: &Context<'_>,
-    graph: &mut Graph,
+    graph: &mut Graph<I>,
     e: ExprId,
     condition: ExprId,
     then_branch: ExprId,
     else_branch: Option<ExprId>,
     to: LocalId,
 ) -> Result<(), MirLowerError>
-    requires ready { IsReady (source_of context.now) (shape graph.old) e.0 }
+    requires ready { IsReady (source_of context.now) (shape I.projections graph.old) e.0 }
     requires form { node (source_of context.now) e.0 ≡ Some (expr.If condition.0 then_branch.0 else_branch) }
-    requires placed { IsPlaced (shape graph.old) to.0 }
-    ensures lowered { OnOk result ((cell : Cell) → local_of (shape graph.old) cell ≡ Some to.0
-        → LowersOwn (source_of context.now) (shape graph.old) (shape graph.new) e.0 cell) }
+    requires placed { IsPlaced (shape I.projections graph.old) to.0 }
+    ensures lowered { OnOk result ((cell : Cell) → local_of (shape I.projections graph.old) cell ≡ Some to.0
+        → LowersOwn (source_of context.now) (shape I.projections graph.old) (shape I.projections graph.new) e.0 cell) }
     ensures built { OnOk result (IsBuilt (source_of context.now) e.0) }
     ensures refused { IfErr result (RefusesAt (source_of context.now) e.0) }
 {
@@ -448,15 +456,15 @@ fn lower_if(
 /// The place that an assignment writes to: the local that a path names, or the place of an expression. An expression that names no
 /// place has none but a local of its own, which isn't assigned.
 #[cycle(lower)]
-fn lower_assignee(
+fn lower_assignee<I: Interner>(
     context: &Context<'_>,
-    graph: &mut Graph,
+    graph: &mut Graph<I>,
     e: ExprId,
     to: Assignee,
 ) -> Result<Place, MirLowerError>
-    requires ready { ArePartsReady (source_of context.now) (shape graph.old) e.0 }
+    requires ready { ArePartsReady (source_of context.now) (shape I.projections graph.old) e.0 }
     requires form { (value : ℕ) × (node (source_of context.now) e.0 ≡ Some (expr.Assign (core_assignee to) value)) }
-    ensures lowered { IfOk result (λ place. LowersAssignee (source_of context.now) (shape graph.old) (shape graph.new) (core_assignee to) place) }
+    ensures lowered { IfOk result (λ place. LowersAssignee (source_of context.now) (shape I.projections graph.old) (shape I.projections graph.new) (core_assignee to) place) }
     ensures built { OnOk result (IsBuiltAssignee (source_of context.now) (core_assignee to)) }
     ensures parts { OnOk result (All (IsBuilt (source_of context.now)) (assignee_parts (core_assignee to))) }
     ensures refused { IfErr result (RefusesAt (source_of context.now) e.0) }
@@ -476,16 +484,16 @@ fn lower_assignee(
 /// An assignment: the value's place, that of the target, and then the value's bytes are copied there. The assignment itself is `()`,
 /// of which nothing is written.
 #[cycle(lower)]
-fn lower_assignment(
+fn lower_assignment<I: Interner>(
     context: &Context<'_>,
-    graph: &mut Graph,
+    graph: &mut Graph<I>,
     e: ExprId,
     to: Assignee,
     value: ExprId,
 ) -> Result<(), MirLowerError>
-    requires ready { IsReady (source_of context.now) (shape graph.old) e.0 }
+    requires ready { IsReady (source_of context.now) (shape I.projections graph.old) e.0 }
     requires form { node (source_of context.now) e.0 ≡ Some (expr.Assign (core_assignee to) value.0) }
-    ensures lowered { OnOk result ((cell : Cell) → LowersOwn (source_of context.now) (shape graph.old) (shape graph.new) e.0 cell) }
+    ensures lowered { OnOk result ((cell : Cell) → LowersOwn (source_of context.now) (shape I.projections graph.old) (shape I.projections graph.new) e.0 cell) }
     ensures built { OnOk result (IsBuilt (source_of context.now) e.0) }
     ensures refused { IfErr result (RefusesAt (source_of context.now) e.0) }
 {
@@ -505,15 +513,15 @@ fn lower_assignment(
 
 /// The place that a compound assignment reads and writes: the local that a path names, or a field's place.
 #[cycle(lower)]
-fn lower_assigned(
+fn lower_assigned<I: Interner>(
     context: &Context<'_>,
-    graph: &mut Graph,
+    graph: &mut Graph<I>,
     e: ExprId,
     to: Assigned,
 ) -> Result<Place, MirLowerError>
-    requires ready { ArePartsReady (source_of context.now) (shape graph.old) e.0 }
+    requires ready { ArePartsReady (source_of context.now) (shape I.projections graph.old) e.0 }
     requires form { (op : Operator) × (value : ℕ) × (node (source_of context.now) e.0 ≡ Some (expr.Compound op (core_assigned to) value)) }
-    ensures lowered { IfOk result (λ place. LowersAssigned (source_of context.now) (shape graph.old) (shape graph.new) (core_assigned to) place) }
+    ensures lowered { IfOk result (λ place. LowersAssigned (source_of context.now) (shape I.projections graph.old) (shape I.projections graph.new) (core_assigned to) place) }
     ensures built { OnOk result (IsBuiltAssigned (source_of context.now) (core_assigned to)) }
     ensures parts { OnOk result (All (IsBuilt (source_of context.now)) (assigned_parts (core_assigned to))) }
     ensures refused { IfErr result (RefusesAt (source_of context.now) e.0) }
@@ -527,17 +535,17 @@ fn lower_assigned(
 /// A compound assignment: the target's place, the value's operand, and then the place is assigned what the operator makes of both.
 /// The assignment itself is `()`, of which nothing is written.
 #[cycle(lower)]
-fn lower_compound(
+fn lower_compound<I: Interner>(
     context: &Context<'_>,
-    graph: &mut Graph,
+    graph: &mut Graph<I>,
     e: ExprId,
     op: BinOp,
     to: Assigned,
     value: ExprId,
 ) -> Result<(), MirLowerError>
-    requires ready { IsReady (source_of context.now) (shape graph.old) e.0 }
+    requires ready { IsReady (source_of context.now) (shape I.projections graph.old) e.0 }
     requires form { node (source_of context.now) e.0 ≡ Some (expr.Compound op (core_assigned to) value.0) }
-    ensures lowered { OnOk result ((cell : Cell) → LowersOwn (source_of context.now) (shape graph.old) (shape graph.new) e.0 cell) }
+    ensures lowered { OnOk result ((cell : Cell) → LowersOwn (source_of context.now) (shape I.projections graph.old) (shape I.projections graph.new) e.0 cell) }
     ensures built { OnOk result (IsBuilt (source_of context.now) e.0) }
     ensures refused { IfErr result (RefusesAt (source_of context.now) e.0) }
 {
@@ -557,19 +565,19 @@ fn lower_compound(
 
 /// A block: its statements, its tail, and then its scope is left.
 #[cycle(lower)]
-fn lower_block(
+fn lower_block<I: Interner>(
     context: &Context<'_>,
-    graph: &mut Graph,
+    graph: &mut Graph<I>,
     e: ExprId,
     statements: &List<Statement>,
     tail: Option<ExprId>,
     to: LocalId,
 ) -> Result<(), MirLowerError>
-    requires ready { IsReady (source_of context.now) (shape graph.old) e.0 }
+    requires ready { IsReady (source_of context.now) (shape I.projections graph.old) e.0 }
     requires form { node (source_of context.now) e.0 ≡ Some (expr.Block statements.now tail) }
-    requires placed { IsPlaced (shape graph.old) to.0 }
-    ensures lowered { OnOk result ((cell : Cell) → local_of (shape graph.old) cell ≡ Some to.0
-        → LowersOwn (source_of context.now) (shape graph.old) (shape graph.new) e.0 cell) }
+    requires placed { IsPlaced (shape I.projections graph.old) to.0 }
+    ensures lowered { OnOk result ((cell : Cell) → local_of (shape I.projections graph.old) cell ≡ Some to.0
+        → LowersOwn (source_of context.now) (shape I.projections graph.old) (shape I.projections graph.new) e.0 cell) }
     ensures built { OnOk result (IsBuilt (source_of context.now) e.0) }
     ensures refused { IfErr result (RefusesAt (source_of context.now) e.0) }
 {
@@ -582,20 +590,20 @@ fn lower_block(
 
 /// A block with a label: as one without, between the two blocks that jumps to it lead to.
 #[cycle(lower)]
-fn lower_labelled(
+fn lower_labelled<I: Interner>(
     context: &Context<'_>,
-    graph: &mut Graph,
+    graph: &mut Graph<I>,
     e: ExprId,
     label: LabelId,
     statements: &List<Statement>,
     tail: Option<ExprId>,
     to: LocalId,
 ) -> Result<(), MirLowerError>
-    requires ready { IsReady (source_of context.now) (shape graph.old) e.0 }
+    requires ready { IsReady (source_of context.now) (shape I.projections graph.old) e.0 }
     requires form { node (source_of context.now) e.0 ≡ Some (expr.Labelled label statements.now tail) }
-    requires placed { IsPlaced (shape graph.old) to.0 }
-    ensures lowered { OnOk result ((cell : Cell) → local_of (shape graph.old) cell ≡ Some to.0
-        → LowersOwn (source_of context.now) (shape graph.old) (shape graph.new) e.0 cell) }
+    requires placed { IsPlaced (shape I.projections graph.old) to.0 }
+    ensures lowered { OnOk result ((cell : Cell) → local_of (shape I.projections graph.old) cell ≡ Some to.0
+        → LowersOwn (source_of context.now) (shape I.projections graph.old) (shape I.projections graph.new) e.0 cell) }
     ensures built { OnOk result (IsBuilt (source_of context.now) e.0) }
     ensures refused { IfErr result (RefusesAt (source_of context.now) e.0) }
 {
@@ -610,19 +618,19 @@ fn lower_labelled(
 
 /// A loop: its body, whose scope is left at the end of each turn, and then the loop again.
 #[cycle(lower)]
-fn lower_loop(
+fn lower_loop<I: Interner>(
     context: &Context<'_>,
-    graph: &mut Graph,
+    graph: &mut Graph<I>,
     e: ExprId,
     label: Option<LabelId>,
     body: ExprId,
     to: LocalId,
 ) -> Result<(), MirLowerError>
-    requires ready { IsReady (source_of context.now) (shape graph.old) e.0 }
+    requires ready { IsReady (source_of context.now) (shape I.projections graph.old) e.0 }
     requires form { node (source_of context.now) e.0 ≡ Some (expr.Loop label body.0) }
-    requires placed { IsPlaced (shape graph.old) to.0 }
-    ensures lowered { OnOk result ((cell : Cell) → local_of (shape graph.old) cell ≡ Some to.0
-        → LowersOwn (source_of context.now) (shape graph.old) (shape graph.new) e.0 cell) }
+    requires placed { IsPlaced (shape I.projections graph.old) to.0 }
+    ensures lowered { OnOk result ((cell : Cell) → local_of (shape I.projections graph.old) cell ≡ Some to.0
+        → LowersOwn (source_of context.now) (shape I.projections graph.old) (shape I.projections graph.new) e.0 cell) }
     ensures built { OnOk result (IsBuilt (source_of context.now) e.0) }
     ensures refused { IfErr result (RefusesAt (source_of context.now) e.0) }
 {
@@ -636,16 +644,16 @@ fn lower_loop(
 
 /// A `break`: its value, where it has one, goes where the value of the loop or labelled block goes that it ends.
 #[cycle(lower)]
-fn lower_break(
+fn lower_break<I: Interner>(
     context: &Context<'_>,
-    graph: &mut Graph,
+    graph: &mut Graph<I>,
     e: ExprId,
     label: Option<LabelId>,
     value: Option<ExprId>,
 ) -> Result<(), MirLowerError>
-    requires ready { IsReady (source_of context.now) (shape graph.old) e.0 }
+    requires ready { IsReady (source_of context.now) (shape I.projections graph.old) e.0 }
     requires form { node (source_of context.now) e.0 ≡ Some (expr.Break label value) }
-    ensures lowered { OnOk result ((cell : Cell) → LowersOwn (source_of context.now) (shape graph.old) (shape graph.new) e.0 cell) }
+    ensures lowered { OnOk result ((cell : Cell) → LowersOwn (source_of context.now) (shape I.projections graph.old) (shape I.projections graph.new) e.0 cell) }
     ensures built { OnOk result (IsBuilt (source_of context.now) e.0) }
     ensures refused { IfErr result (RefusesAt (source_of context.now) e.0) }
 {
@@ -657,15 +665,15 @@ fn lower_break(
 
 /// A `return`: its value, where it has one, goes to the return slot, and then the body returns.
 #[cycle(lower)]
-fn lower_return(
+fn lower_return<I: Interner>(
     context: &Context<'_>,
-    graph: &mut Graph,
+    graph: &mut Graph<I>,
     e: ExprId,
     value: Option<ExprId>,
 ) -> Result<(), MirLowerError>
-    requires ready { IsReady (source_of context.now) (shape graph.old) e.0 }
+    requires ready { IsReady (source_of context.now) (shape I.projections graph.old) e.0 }
     requires form { node (source_of context.now) e.0 ≡ Some (expr.Return value) }
-    ensures lowered { OnOk result ((cell : Cell) → LowersOwn (source_of context.now) (shape graph.old) (shape graph.new) e.0 cell) }
+    ensures lowered { OnOk result ((cell : Cell) → LowersOwn (source_of context.now) (shape I.projections graph.old) (shape I.projections graph.new) e.0 cell) }
     ensures built { OnOk result (IsBuilt (source_of context.now) e.0) }
     ensures refused { IfErr result (RefusesAt (source_of context.now) e.0) }
 {
@@ -676,18 +684,18 @@ fn lower_return(
 
 /// A method call: a call of the function that it is resolved to, whose first argument is the receiver.
 #[cycle(lower)]
-fn lower_method_call(
+fn lower_method_call<I: Interner>(
     context: &Context<'_>,
-    graph: &mut Graph,
+    graph: &mut Graph<I>,
     e: ExprId,
     receiver: ExprId,
     args: &[ExprId],
     to: LocalId,
 ) -> Result<(), MirLowerError>
-    requires ready { IsReady (source_of context.now) (shape graph.old) e.0 }
+    requires ready { IsReady (source_of context.now) (shape I.projections graph.old) e.0 }
     requires form { node (source_of context.now) e.0 ≡ Some (expr.Call None (receiver.0 ∷ expr_numbers args.now)) }
-    ensures lowered { OnOk result ((cell : Cell) → local_of (shape graph.old) cell ≡ Some to.0
-        → LowersOwn (source_of context.now) (shape graph.old) (shape graph.new) e.0 cell) }
+    ensures lowered { OnOk result ((cell : Cell) → local_of (shape I.projections graph.old) cell ≡ Some to.0
+        → LowersOwn (source_of context.now) (shape I.projections graph.old) (shape I.projections graph.new) e.0 cell) }
     ensures built { OnOk result (IsBuilt (source_of context.now) e.0) }
     ensures refused { IfErr result (RefusesAt (source_of context.now) e.0) }
 {
@@ -697,18 +705,18 @@ fn lower_method_call(
 
 /// A call: the operand that names the callee, the arguments' operands from left to right, and then the call, which reads them all.
 #[cycle(lower)]
-fn lower_call(
+fn lower_call<I: Interner>(
     context: &Context<'_>,
-    graph: &mut Graph,
+    graph: &mut Graph<I>,
     e: ExprId,
     callee: Option<ExprId>,
     args: &[ExprId],
     to: LocalId,
 ) -> Result<(), MirLowerError>
-    requires ready { IsReady (source_of context.now) (shape graph.old) e.0 }
+    requires ready { IsReady (source_of context.now) (shape I.projections graph.old) e.0 }
     requires form { node (source_of context.now) e.0 ≡ Some (expr.Call (callee_number callee) (expr_numbers args.now)) }
-    ensures lowered { OnOk result ((cell : Cell) → local_of (shape graph.old) cell ≡ Some to.0
-        → LowersOwn (source_of context.now) (shape graph.old) (shape graph.new) e.0 cell) }
+    ensures lowered { OnOk result ((cell : Cell) → local_of (shape I.projections graph.old) cell ≡ Some to.0
+        → LowersOwn (source_of context.now) (shape I.projections graph.old) (shape I.projections graph.new) e.0 cell) }
     ensures built { OnOk result (IsBuilt (source_of context.now) e.0) }
     ensures refused { IfErr result (RefusesAt (source_of context.now) e.0) }
 {
@@ -721,15 +729,15 @@ fn lower_call(
 /// The operands of a call's arguments, or of the parts of a tuple, an array or a struct, from left to right. They are parts of the given
 /// expression.
 #[cycle(lower)]
-fn lower_operands(
+fn lower_operands<I: Interner>(
     context: &Context<'_>,
-    graph: &mut Graph,
+    graph: &mut Graph<I>,
     e: ExprId,
     args: &[ExprId],
 ) -> Result<List<Operand>, MirLowerError>
-    requires ready { ArePartsReady (source_of context.now) (shape graph.old) e.0 }
+    requires ready { ArePartsReady (source_of context.now) (shape I.projections graph.old) e.0 }
     requires parts { All (Contains (parts_of (node (source_of context.now) e.0))) (expr_numbers args.now) }
-    ensures lowered { IfOk result (λ operands. LowersOperands (source_of context.now) (shape graph.old) (shape graph.new) (expr_numbers args.now) (map (λ operand. operand.kind) operands)) }
+    ensures lowered { IfOk result (λ operands. LowersOperands (source_of context.now) (shape I.projections graph.old) (shape I.projections graph.new) (expr_numbers args.now) (map (λ operand. operand.kind) operands)) }
     ensures many { IfOk result (λ operands. length operands ≡ length args.now) }
     ensures built { OnOk result (All (IsBuilt (source_of context.now)) (expr_numbers args.now)) }
     ensures refused { IfErr result (RefusesAt (source_of context.now) e.0) }
@@ -744,15 +752,15 @@ fn lower_operands(
 
 /// The statements of a block.
 #[cycle(lower)]
-fn lower_statements(
+fn lower_statements<I: Interner>(
     context: &Context<'_>,
-    graph: &mut Graph,
+    graph: &mut Graph<I>,
     e: ExprId,
     statements: &[Statement],
 ) -> Result<(), MirLowerError>
-    requires ready { ArePartsReady (source_of context.now) (shape graph.old) e.0 }
+    requires ready { ArePartsReady (source_of context.now) (shape I.projections graph.old) e.0 }
     requires form { HasStatements (node (source_of context.now) e.0) statements.now }
-    ensures lowered { OnOk result (LowersStatements (source_of context.now) (shape graph.old) (shape graph.new) statements.now) }
+    ensures lowered { OnOk result (LowersStatements (source_of context.now) (shape I.projections graph.old) (shape I.projections graph.new) statements.now) }
     ensures built { OnOk result (All (IsBuiltThrough (source_of context.now)) statements.now) }
     ensures refused { IfErr result (RefusesAt (source_of context.now) e.0) }
 {
@@ -764,18 +772,18 @@ fn lower_statements(
 
 /// An expression that may be left out: the tail of a block, or the second branch of an `if`.
 #[cycle(lower)]
-fn lower_tail(
+fn lower_tail<I: Interner>(
     context: &Context<'_>,
-    graph: &mut Graph,
+    graph: &mut Graph<I>,
     e: ExprId,
     tail: Option<ExprId>,
     to: LocalId,
 ) -> Result<(), MirLowerError>
-    requires ready { ArePartsReady (source_of context.now) (shape graph.old) e.0 }
+    requires ready { ArePartsReady (source_of context.now) (shape I.projections graph.old) e.0 }
     requires part { IfSome tail (λ one. Contains (parts_of (node (source_of context.now) e.0)) one.0) }
-    requires placed { IsPlaced (shape graph.old) to.0 }
-    ensures lowered { OnOk result ((cell : Cell) → local_of (shape graph.old) cell ≡ Some to.0
-        → LowersTail (source_of context.now) (shape graph.old) (shape graph.new) tail cell) }
+    requires placed { IsPlaced (shape I.projections graph.old) to.0 }
+    ensures lowered { OnOk result ((cell : Cell) → local_of (shape I.projections graph.old) cell ≡ Some to.0
+        → LowersTail (source_of context.now) (shape I.projections graph.old) (shape I.projections graph.new) tail cell) }
     ensures built { OnOk result (All (IsBuilt (source_of context.now)) (optional tail)) }
     ensures refused { IfErr result (RefusesAt (source_of context.now) e.0) }
 {
@@ -787,15 +795,15 @@ fn lower_tail(
 
 /// A statement of a block.
 #[cycle(lower)]
-fn lower_statement(
+fn lower_statement<I: Interner>(
     context: &Context<'_>,
-    graph: &mut Graph,
+    graph: &mut Graph<I>,
     e: ExprId,
     statement: Statement,
 ) -> Result<(), MirLowerError>
-    requires ready { ArePartsReady (source_of context.now) (shape graph.old) e.0 }
+    requires ready { ArePartsReady (source_of context.now) (shape I.projections graph.old) e.0 }
     requires stands { IsStatementOf (source_of context.now) e.0 statement }
-    ensures lowered { OnOk result (LowersStatements (source_of context.now) (shape graph.old) (shape graph.new) (statement ∷ [])) }
+    ensures lowered { OnOk result (LowersStatements (source_of context.now) (shape I.projections graph.old) (shape I.projections graph.new) (statement ∷ [])) }
     ensures built { OnOk result (IsBuiltThrough (source_of context.now) statement) }
     ensures refused { IfErr result (RefusesAt (source_of context.now) e.0) }
 {
@@ -820,16 +828,16 @@ fn lower_statement(
 
 /// A `let` with an initializer: the initializer's place, and then the name is bound.
 #[cycle(lower)]
-fn lower_let(
+fn lower_let<I: Interner>(
     context: &Context<'_>,
-    graph: &mut Graph,
+    graph: &mut Graph<I>,
     e: ExprId,
     pat: PatId,
     initializer: ExprId,
 ) -> Result<(), MirLowerError>
-    requires ready { ArePartsReady (source_of context.now) (shape graph.old) e.0 }
+    requires ready { ArePartsReady (source_of context.now) (shape I.projections graph.old) e.0 }
     requires stands { IsStatementOf (source_of context.now) e.0 (statement_kind.Let pat (Some initializer) None) }
-    ensures lowered { OnOk result (LowersStatements (source_of context.now) (shape graph.old) (shape graph.new) (statement_kind.Let pat (Some initializer) None ∷ [])) }
+    ensures lowered { OnOk result (LowersStatements (source_of context.now) (shape I.projections graph.old) (shape I.projections graph.new) (statement_kind.Let pat (Some initializer) None ∷ [])) }
     ensures built { OnOk result (IsBuiltThrough (source_of context.now) (statement_kind.Let pat (Some initializer) None)) }
     ensures refused { IfErr result (RefusesAt (source_of context.now) e.0) }
 {
@@ -840,16 +848,16 @@ fn lower_let(
 
 /// An expression statement: its place, and then what came into use in it is left.
 #[cycle(lower)]
-fn lower_expr_statement(
+fn lower_expr_statement<I: Interner>(
     context: &Context<'_>,
-    graph: &mut Graph,
+    graph: &mut Graph<I>,
     e: ExprId,
     expr: ExprId,
     has_semi: bool,
 ) -> Result<(), MirLowerError>
-    requires ready { ArePartsReady (source_of context.now) (shape graph.old) e.0 }
+    requires ready { ArePartsReady (source_of context.now) (shape I.projections graph.old) e.0 }
     requires stands { IsStatementOf (source_of context.now) e.0 (statement_kind.Expr expr has_semi) }
-    ensures lowered { OnOk result (LowersStatements (source_of context.now) (shape graph.old) (shape graph.new) (statement_kind.Expr expr has_semi ∷ [])) }
+    ensures lowered { OnOk result (LowersStatements (source_of context.now) (shape I.projections graph.old) (shape I.projections graph.new) (statement_kind.Expr expr has_semi ∷ [])) }
     ensures built { OnOk result (IsBuiltThrough (source_of context.now) (statement_kind.Expr expr has_semi)) }
     ensures refused { IfErr result (RefusesAt (source_of context.now) e.0) }
 {

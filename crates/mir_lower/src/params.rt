@@ -12,16 +12,19 @@ ghost use Rattle.mir_lower.specs.Parameters.{MarksBindings, LowersParameters};
 ghost use Rattle.mir_lower.specs.Refusals.{RefusesPattern, RefusesParameters};
 
 use body_forms::{Context, form_not_built, name_bound};
-use mir::{LocalId, MirLowerError};
+use mir::{Interner, LocalId, MirLowerError};
 use mir_graph::{Graph, Held};
 use world::{BindingId, List, PatId};
 
 /// Marks the local of a binding that is a parameter as in use in the innermost open scope. It has no `StorageLive`: an
 /// argument is live from the start on.
-fn mark_param(graph: &mut Graph, binding: BindingId) -> Result<LocalId, MirLowerError>
-    ensures found { IfOk result (λ local. binding_local (shape graph.old) binding.0 ≡ Some local.0) }
-    ensures marked { OnOk result (shape graph.new ≡ with_mark (Binding binding.0) (shape graph.old)) }
-    ensures refused { IfErr result (λ error. ((error ≡ refusal.InaccessibleLocal) × (binding_local (shape graph.old) binding.0 ≡ None)) ⊎ (error ≡ refusal.NoMemory)) }
+fn mark_param<I: Interner>(
+    graph: &mut Graph<I>,
+    binding: BindingId,
+) -> Result<LocalId, MirLowerError>
+    ensures found { IfOk result (λ local. binding_local (shape I.projections graph.old) binding.0 ≡ Some local.0) }
+    ensures marked { OnOk result (shape I.projections graph.new ≡ with_mark (Binding binding.0) (shape I.projections graph.old)) }
+    ensures refused { IfErr result (λ error. ((error ≡ refusal.InaccessibleLocal) × (binding_local (shape I.projections graph.old) binding.0 ≡ None)) ⊎ (error ≡ refusal.NoMemory)) }
 {
     let Some(local) = graph.binding_local(binding) else {
         return Err(MirLowerError::InaccessibleLocal);
@@ -31,9 +34,12 @@ fn mark_param(graph: &mut Graph, binding: BindingId) -> Result<LocalId, MirLower
 }
 
 /// The local of `self`, where the body has it.
-fn lower_self(context: &Context<'_>, graph: &mut Graph) -> Result<List<LocalId>, MirLowerError>
-    requires { IsSound (source_of context.now) (shape graph.old) }
-    ensures lowered { IfOk result (MarksBindings (shape graph.old) (shape graph.new) (self_bound context.now.body.now.self_param)) }
+fn lower_self<I: Interner>(
+    context: &Context<'_>,
+    graph: &mut Graph<I>,
+) -> Result<List<LocalId>, MirLowerError>
+    requires { IsSound (source_of context.now) (shape I.projections graph.old) }
+    ensures lowered { IfOk result (MarksBindings (shape I.projections graph.old) (shape I.projections graph.new) (self_bound context.now.body.now.self_param)) }
     ensures refused { IfErr result (RefusesParameters (source_of context.now)) }
 {
     let mut locals = List::new(context.alloc);
@@ -46,14 +52,14 @@ fn lower_self(context: &Context<'_>, graph: &mut Graph) -> Result<List<LocalId>,
 }
 
 /// The local of a parameter: that of the binding that its pattern is the plain name of.
-fn lower_param(
+fn lower_param<I: Interner>(
     context: &Context<'_>,
-    graph: &mut Graph,
+    graph: &mut Graph<I>,
     pat: PatId,
 ) -> Result<LocalId, MirLowerError>
-    requires { IsSound (source_of context.now) (shape graph.old) }
+    requires { IsSound (source_of context.now) (shape I.projections graph.old) }
     ensures lowered { IfOk result (λ local. (binding : BindingId) × (pattern (source_of context.now) pat.0 ≡ Some binding)
-        × (binding_local (shape graph.old) binding.0 ≡ Some local.0) × (shape graph.new ≡ with_mark (Binding binding.0) (shape graph.old))) }
+        × (binding_local (shape I.projections graph.old) binding.0 ≡ Some local.0) × (shape I.projections graph.new ≡ with_mark (Binding binding.0) (shape I.projections graph.old))) }
     ensures refused { IfErr result (RefusesPattern (source_of context.now) pat.0) }
 {
     let Some(binding) = name_bound(context, pat) else {
@@ -64,12 +70,12 @@ fn lower_param(
 
 /// The locals of the parameters, in order, that of `self` first. They are marked as in use in the innermost open scope.
 /// A parameter that isn't a name by value is `NotSupported`.
-pub(crate) fn lower_params(
+pub(crate) fn lower_params<I: Interner>(
     context: &Context<'_>,
-    graph: &mut Graph,
+    graph: &mut Graph<I>,
 ) -> Result<List<LocalId>, MirLowerError>
-    requires { IsSound (source_of context.now) (shape graph.old) }
-    ensures lowered { IfOk result (LowersParameters (source_of context.now) (shape graph.old) (shape graph.new)) }
+    requires { IsSound (source_of context.now) (shape I.projections graph.old) }
+    ensures lowered { IfOk result (LowersParameters (source_of context.now) (shape I.projections graph.old) (shape I.projections graph.new)) }
     ensures refused { IfErr result (RefusesParameters (source_of context.now)) }
 {
     let mut locals = lower_self(context, graph)?;

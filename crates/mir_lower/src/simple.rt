@@ -15,22 +15,22 @@ ghost use Rattle.mir_lower.specs.Refusals.{RefusesAt};
 use crate::jump::{jump, target_of_jump};
 use crate::locals::{assign, named_local};
 use body_forms::{Context, LiteralValue, PlaceForm, copied, lower_literal, place_form_at};
-use mir::{LocalId, MirLowerError, MirSpan, Place, Rvalue};
+use mir::{Interner, LocalId, MirLowerError, MirSpan, Place, Rvalue};
 use mir_graph::Graph;
 use world::{ExprId, LabelId, Text};
 
 /// A literal is assigned.
-pub(crate) fn literal_into(
+pub(crate) fn literal_into<I: Interner>(
     context: &Context<'_>,
-    graph: &mut Graph,
+    graph: &mut Graph<I>,
     e: ExprId,
     literal: LiteralValue,
     to: LocalId,
 ) -> Result<(), MirLowerError>
-    requires ready { IsReady (source_of context.now) (shape graph.old) e.0 }
+    requires ready { IsReady (source_of context.now) (shape I.projections graph.old) e.0 }
     requires form { node (source_of context.now) e.0 ≡ Some (expr.Literal (core_value literal)) }
-    ensures lowered { OnOk result ((cell : Cell) → local_of (shape graph.old) cell ≡ Some to.0
-        → LowersOwn (source_of context.now) (shape graph.old) (shape graph.new) e.0 cell) }
+    ensures lowered { OnOk result ((cell : Cell) → local_of (shape I.projections graph.old) cell ≡ Some to.0
+        → LowersOwn (source_of context.now) (shape I.projections graph.old) (shape I.projections graph.new) e.0 cell) }
     ensures built { OnOk result (IsBuilt (source_of context.now) e.0) }
     ensures refused { IfErr result (RefusesAt (source_of context.now) e.0) }
 {
@@ -39,17 +39,17 @@ pub(crate) fn literal_into(
 }
 
 /// The bytes of what a path names are copied.
-pub(crate) fn name_into(
+pub(crate) fn name_into<I: Interner>(
     context: &Context<'_>,
-    graph: &mut Graph,
+    graph: &mut Graph<I>,
     e: ExprId,
     name: &Text,
     to: LocalId,
 ) -> Result<(), MirLowerError>
-    requires ready { IsReady (source_of context.now) (shape graph.old) e.0 }
+    requires ready { IsReady (source_of context.now) (shape I.projections graph.old) e.0 }
     requires form { node (source_of context.now) e.0 ≡ Some (expr.Path name.now) }
-    ensures lowered { OnOk result ((cell : Cell) → local_of (shape graph.old) cell ≡ Some to.0
-        → LowersOwn (source_of context.now) (shape graph.old) (shape graph.new) e.0 cell) }
+    ensures lowered { OnOk result ((cell : Cell) → local_of (shape I.projections graph.old) cell ≡ Some to.0
+        → LowersOwn (source_of context.now) (shape I.projections graph.old) (shape I.projections graph.new) e.0 cell) }
     ensures built { OnOk result (IsBuilt (source_of context.now) e.0) }
     ensures refused { IfErr result (RefusesAt (source_of context.now) e.0) }
 {
@@ -63,15 +63,15 @@ pub(crate) fn name_into(
 }
 
 /// A `continue`: the next turn of a loop, or a labelled block from its beginning.
-pub(crate) fn lower_continue(
+pub(crate) fn lower_continue<I: Interner>(
     context: &Context<'_>,
-    graph: &mut Graph,
+    graph: &mut Graph<I>,
     e: ExprId,
     label: Option<LabelId>,
 ) -> Result<(), MirLowerError>
-    requires ready { IsReady (source_of context.now) (shape graph.old) e.0 }
+    requires ready { IsReady (source_of context.now) (shape I.projections graph.old) e.0 }
     requires form { node (source_of context.now) e.0 ≡ Some (expr.Continue label) }
-    ensures lowered { OnOk result ((cell : Cell) → LowersOwn (source_of context.now) (shape graph.old) (shape graph.new) e.0 cell) }
+    ensures lowered { OnOk result ((cell : Cell) → LowersOwn (source_of context.now) (shape I.projections graph.old) (shape I.projections graph.new) e.0 cell) }
     ensures built { OnOk result (IsBuilt (source_of context.now) e.0) }
     ensures refused { IfErr result (RefusesAt (source_of context.now) e.0) }
 {

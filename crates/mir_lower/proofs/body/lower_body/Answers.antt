@@ -3,6 +3,7 @@ use Rattle.std.proofs.Common.{◌⊎◌, ◌++◌, [], List, refl, sym, ap, ◌�
 use Rattle.mir.specs.declared.body.Local.{Local}
 use Rattle.mir.specs.declared.errors.MirLowerError.{MirLowerError}
 use Rattle.mir.specs.declared.ids.LocalId.{LocalId}
+use Rattle.mir.specs.ProjectionIds.{projections_of}
 use Rattle.mir.specs.declared.span.MirSpan.TheVariants.{ExprId}
 use Rattle.source_meaning.specs.Calls.{parameter_cells}
 use Rattle.source_meaning.specs.Events.{marked}
@@ -26,25 +27,30 @@ use Rattle.mir_lower.proofs.body.lower_body.Goals as goal
 abbrev Cause : Source → MirLowerError → Type 0
 Cause source error = RefusesParameters source error ⊎ RefusesAt source (root source) error
 
-pub returns-in_err-graph-clause-refused : goal.returns-in_err-graph-clause-refused
-returns-in_err-graph-clause-refused c =
+pub returns-in_err-store-clause-refused : goal.returns-in_err-store-clause-refused
+returns-in_err-store-clause-refused c =
     let source = source_of c.args.context.now in
     refused-exit (Cause source) _ c.from_residual.result c.from_residual.ensures.1 (λ error none. inr (refuses-no-memory source (root source) error none))
 
+pub returns-in_err-graph-clause-refused : goal.returns-in_err-graph-clause-refused
+returns-in_err-graph-clause-refused c =
+    let source = source_of c.args.context.now in
+    refused-exit (Cause source) _ c.from_residual-in_err-graph.result c.from_residual-in_err-graph.ensures.1 (λ error none. inr (refuses-no-memory source (root source) error none))
+
 pub lower_params-requires : goal.lower_params-requires
-lower_params-requires c = first-sound (source_of c.args.context.now) (shape c.in_ok-graph.graph) c.in_ok-graph.ensures
+lower_params-requires c = first-sound (source_of c.args.context.now) (shape projections_of c.in_ok-graph.graph) c.in_ok-graph.ensures
 
 pub lower_into-requires-clause-ready : goal.lower_into-requires-clause-ready
 lower_into-requires-clause-ready c =
     let source = source_of c.args.context.now in
-    let begun = begins-marking source (shape c.in_ok-graph.graph) (shape c.lower_params.new.graph) (parameter_cells source) c.in_ok-params.ensures.lowered.marked c.in_ok-graph.ensures in
+    let begun = begins-marking source (shape projections_of c.in_ok-graph.graph) (shape projections_of c.lower_params.new.graph) (parameter_cells source) c.in_ok-params.ensures.lowered.marked c.in_ok-graph.ensures in
     record {
       checked = c.requires.checked;
       sound = begun.sound;
       «open» = begun.«open»;
       within = c.requires.checked.root;
       reached = itself;
-      around = around-first source (shape c.lower_params.new.graph) begun.targets;
+      around = around-first source (shape projections_of c.lower_params.new.graph) begun.targets;
     }
 
 pub lower_into-requires-clause-placed : goal.lower_into-requires-clause-placed
@@ -59,10 +65,10 @@ leave_scope-requires-clause-opened c = (c.in_ok-lower_into.ensures.lowered Resul
 pub leave_scope-requires-clause-within : goal.leave_scope-requires-clause-within
 leave_scope-requires-clause-within c =
     let source = source_of c.args.context.now in
-    let s0 = shape c.in_ok-graph.graph in
-    let s2 = shape c.lower_into.new.graph in
+    let s0 = shape projections_of c.in_ok-graph.graph in
+    let s2 = shape projections_of c.lower_into.new.graph in
     let inner = parameter_cells source ++ marked source (root source) in
-    let since = marked-since source s0 (shape c.lower_params.new.graph) (parameter_cells source) c.in_ok-params.ensures.lowered.marked s2 (marked source (root source)) (c.in_ok-lower_into.ensures.lowered Result refl).keeps.scope in
+    let since = marked-since source s0 (shape projections_of c.lower_params.new.graph) (parameter_cells source) c.in_ok-params.ensures.lowered.marked s2 (marked source (root source)) (c.in_ok-lower_into.ensures.lowered Result refl).keeps.scope in
     opened-within s0 s2 c.push_drop_scope-scope.result.0 inner c.push_drop_scope-scope.ensures since
 
 pub returns-in_err-leave_scope-clause-refused : goal.returns-in_err-leave_scope-clause-refused
@@ -73,10 +79,10 @@ returns-in_err-leave_scope-clause-refused c =
 pub returns : goal.returns
 returns c =
     let source = source_of c.args.context.now in
-    let s0 = shape c.in_ok-graph.graph in
-    let s1 = shape c.lower_params.new.graph in
-    let s2 = shape c.lower_into.new.graph in
-    let s3 = shape c.leave_scope.new.graph in
+    let s0 = shape projections_of c.in_ok-graph.graph in
+    let s1 = shape projections_of c.lower_params.new.graph in
+    let s2 = shape projections_of c.lower_into.new.graph in
+    let s3 = shape projections_of c.leave_scope.new.graph in
     let token = c.push_drop_scope-scope.result.0 in
     let opened = c.push_drop_scope-scope.ensures in
     let cells = parameter_cells source in

@@ -5,4 +5,4 @@ use Rattle.mir_lower.proofs.first.first_graph.Given as goal
 
 -- the bindings so far are added
 abbrev pub invariant-loop-place : goal.invariant-loop-place
-invariant-loop-place l = IsFirst (source_of l.context) l.place (shape l.graph)
+invariant-loop-place g l = IsFirst (source_of l.context) l.place (shape g.I.Interner.projections l.graph)

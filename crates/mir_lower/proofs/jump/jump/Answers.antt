@@ -9,9 +9,9 @@ use Rattle.mir_lower.proofs.Jumps.{jumps}
 use Rattle.mir_lower.proofs.jump.jump.Goals as goal
 
 pub returns : goal.returns
-returns c =
+returns g c =
     let source = source_of c.args.context.now in
-    let s0 = shape c.args.graph.now in
+    let s0 = shape g.I.Interner.projections c.args.graph.now in
     on_ok_weaker c.open_block.result
-    (λ same. jumps source s0 (shape c.leave_marked.new.graph) (shape c.set_terminator.new.self) (shape c.open_block.new.self) c.args.to (ExprId c.args.e) (drops source (drop c.args.drop_scope.0 s0.scope)) c.in_ok-leave_marked.ensures c.set_terminator.ensures same)
+    (λ same. jumps source s0 (shape g.I.Interner.projections c.leave_marked.new.graph) (shape g.I.Interner.projections c.set_terminator.new.self) (shape g.I.Interner.projections c.open_block.new.self) c.args.to (ExprId c.args.e) (drops source (drop c.args.drop_scope.0 s0.scope)) c.in_ok-leave_marked.ensures c.set_terminator.ensures same)
     c.open_block.ensures

@@ -11,15 +11,15 @@ use Rattle.mir_lower.proofs.Leaving.{idles-drop, idles-refl}
 use Rattle.mir_lower.proofs.leave.drop_if_needed.Goals as goal
 
 pub returns-then-needed : goal.returns-then-needed
-returns-then-needed c =
+returns-then-needed g c =
     let source = source_of c.args.context.now in
     on_ok_weaker c.drop_local.result
-    (λ h. subst (λ (b : Bool). Idles source (shape c.args.graph.now) (shape c.drop_local.new.graph) (one_if b)) (sym c.if-needed.true ∙ c.is_dropped-needed.ensures)
-    (idles-drop source (shape c.args.graph.now) (shape c.drop_local.new.graph) (whole_place c.args.marked.local) h.0 None (ExprId c.args.at) c.requires.sound c.requires.opened h.1 h.2))
+    (λ h. subst (λ (b : Bool). Idles source (shape g.I.Interner.projections c.args.graph.now) (shape g.I.Interner.projections c.drop_local.new.graph) (one_if b)) (sym c.if-needed.true ∙ c.is_dropped-needed.ensures)
+    (idles-drop source (shape g.I.Interner.projections c.args.graph.now) (shape g.I.Interner.projections c.drop_local.new.graph) (whole_place c.args.marked.local) h.0 None (ExprId c.args.at) c.requires.sound c.requires.opened h.1 h.2))
     c.drop_local.ensures
 
 pub returns-else-needed : goal.returns-else-needed
-returns-else-needed c =
+returns-else-needed g c =
     let source = source_of c.args.context.now in
-    subst (λ (b : Bool). Idles source (shape c.args.graph.now) (shape c.args.graph.now) (one_if b)) (sym c.if-needed.false ∙ c.is_dropped-needed.ensures)
-    (idles-refl source (shape c.args.graph.now) c.requires.sound c.requires.opened)
+    subst (λ (b : Bool). Idles source (shape g.I.Interner.projections c.args.graph.now) (shape g.I.Interner.projections c.args.graph.now) (one_if b)) (sym c.if-needed.false ∙ c.is_dropped-needed.ensures)
+    (idles-refl source (shape g.I.Interner.projections c.args.graph.now) c.requires.sound c.requires.opened)

@@ -11,11 +11,11 @@ use Rattle.mir_graph.proofs.Lists.{at-index}
 use Rattle.mir_lower.proofs.leave.leave_marked.Goals as goal
 
 pub loop-left-preserved : goal.loop-left-preserved
-loop-left-preserved c =
+loop-left-preserved g c =
     let source = source_of c.args.context.now in
-    let s0 = shape c.args.graph.now in
-    let s1 = shape c.loop-left.graph in
-    let s2 = shape c.leave_local.new.graph in
+    let s0 = shape g.I.Interner.projections c.args.graph.now in
+    let s1 = shape g.I.Interner.projections c.loop-left.graph in
+    let s2 = shape g.I.Interner.projections c.leave_local.new.graph in
     let items = c.loop-left.graph.scope.items in
     let marked = c.index-marked.result.now in
     let k = c.loop-left.left - 1 in
@@ -32,16 +32,16 @@ loop-left-preserved c =
     )
 
 pub loop-left-init : goal.loop-left-init
-loop-left-init c =
+loop-left-init g c =
     let source = source_of c.args.context.now in
-    let s0 = shape c.args.graph.now in
+    let s0 = shape g.I.Interner.projections c.args.graph.now in
     let long : length s0.scope ≡ length c.args.graph.now.scope.items = length-map c.args.graph.now.scope.items (λ m. cell_of m.held) in
     let at = c.len-left.ensures in
     nothing-left source s0 c.args.token.0 c.len-left.result (omega (arith, long, at)) c.requires.sound c.requires.opened
 
 pub returns : goal.returns
-returns c =
+returns g c =
     let source = source_of c.args.context.now in
-    let s0 = shape c.args.graph.now in
+    let s0 = shape g.I.Interner.projections c.args.graph.now in
     let done = c.loop-left-test.false in
-    left-as-marked source s0 (shape c.loop-left.graph) c.args.token.0 c.loop-left.left (omega (arith, done)) c.loop-left.invariant.0 c.loop-left.invariant.2
+    left-as-marked source s0 (shape g.I.Interner.projections c.loop-left.graph) c.args.token.0 c.loop-left.left (omega (arith, done)) c.loop-left.invariant.0 c.loop-left.invariant.2

@@ -7,9 +7,9 @@ use Rattle.mir_lower.specs.Leaving.{Idles}
 use Rattle.mir_lower.proofs.leave.leave_marked.Given as goal
 
 abbrev pub invariant-loop-left : goal.invariant-loop-left
-invariant-loop-left l =
-    ((l.token.0 ≤ l.left) ⊎ (l.left ≡ length (shape l.initial.graph).scope)) × (l.left ≤ length (shape l.initial.graph).scope)
-    × Idles (source_of l.context) (shape l.initial.graph) (shape l.graph) (drops (source_of l.context) (drop l.left (shape l.initial.graph).scope))
+invariant-loop-left g l =
+    ((l.token.0 ≤ l.left) ⊎ (l.left ≡ length (shape g.I.Interner.projections l.initial.graph).scope)) × (l.left ≤ length (shape g.I.Interner.projections l.initial.graph).scope)
+    × Idles (source_of l.context) (shape g.I.Interner.projections l.initial.graph) (shape g.I.Interner.projections l.graph) (drops (source_of l.context) (drop l.left (shape g.I.Interner.projections l.initial.graph).scope))
 
 abbrev pub decreases-loop-left : goal.decreases-loop-left
-decreases-loop-left l = l.left
+decreases-loop-left g l = l.left

@@ -6,7 +6,7 @@ use Rattle.mir_lower.proofs.Drops.{HasLeft}
 use Rattle.mir_lower.proofs.leave.leave_scope.Given as goal
 
 abbrev pub invariant-loop-marked : goal.invariant-loop-marked
-invariant-loop-marked l = HasLeft (source_of l.context) (shape l.initial.graph) (shape l.graph) × (l.token.0 ≤ length (shape l.graph).scope)
+invariant-loop-marked g l = HasLeft (source_of l.context) (shape g.I.Interner.projections l.initial.graph) (shape g.I.Interner.projections l.graph) × (l.token.0 ≤ length (shape g.I.Interner.projections l.graph).scope)
 
 abbrev pub decreases-loop-marked : goal.decreases-loop-marked
-decreases-loop-marked l = length (shape l.graph).scope
+decreases-loop-marked g l = length (shape g.I.Interner.projections l.graph).scope

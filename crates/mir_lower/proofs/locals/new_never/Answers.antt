@@ -11,12 +11,12 @@ use Rattle.mir_lower.proofs.locals.new_never.Goals as goal
 
 pub push_statement-requires : goal.push_statement-requires
 unfolding with_never
-push_statement-requires c =
-    (marks-local ForNever (source_of c.args.context.now) (shape c.args.graph.now) c.args.e.0 c.in_ok-ty.ty c.requires.ready.sound c.requires.ready.«open» c.requires.ready.within (c.requires.ready.reached, c.requires.adjusted, c.requires.ready.within) (never-cell (source_of c.args.context.now) c.args.e.0 c.requires.adjusted ∙ c.own_ty.ensures ∙ ap Some (sym c.in_ok-ty.ensures)) (shape c.never_for.new.self) c.in_ok-local.local.0 c.in_ok-local.ensures.old c.in_ok-local.ensures.new).«open».there
+push_statement-requires g c =
+    (marks-local ForNever (source_of c.args.context.now) (shape g.I.Interner.projections c.args.graph.now) c.args.e.0 c.in_ok-ty.ty c.requires.ready.sound c.requires.ready.«open» c.requires.ready.within (c.requires.ready.reached, c.requires.adjusted, c.requires.ready.within) (never-cell (source_of c.args.context.now) c.args.e.0 c.requires.adjusted ∙ c.own_ty.ensures ∙ ap Some (sym c.in_ok-ty.ensures)) (shape g.I.Interner.projections c.never_for.new.self) c.in_ok-local.local.0 c.in_ok-local.ensures.old c.in_ok-local.ensures.new).«open».there
 
 pub returns-clause-given : goal.returns-clause-given
 unfolding with_never
-returns-clause-given c =
-    given-marked (source_of c.args.context.now) (shape c.args.graph.now) (shape c.never_for.new.self) (shape c.push_statement.new.self) (Never c.args.e.0) c.in_ok-local.local (ExprId c.args.e)
-    (marks-local ForNever (source_of c.args.context.now) (shape c.args.graph.now) c.args.e.0 c.in_ok-ty.ty c.requires.ready.sound c.requires.ready.«open» c.requires.ready.within (c.requires.ready.reached, c.requires.adjusted, c.requires.ready.within) (never-cell (source_of c.args.context.now) c.args.e.0 c.requires.adjusted ∙ c.own_ty.ensures ∙ ap Some (sym c.in_ok-ty.ensures)) (shape c.never_for.new.self) c.in_ok-local.local.0 c.in_ok-local.ensures.old c.in_ok-local.ensures.new)
+returns-clause-given g c =
+    given-marked (source_of c.args.context.now) (shape g.I.Interner.projections c.args.graph.now) (shape g.I.Interner.projections c.never_for.new.self) (shape g.I.Interner.projections c.push_statement.new.self) (Never c.args.e.0) c.in_ok-local.local (ExprId c.args.e)
+    (marks-local ForNever (source_of c.args.context.now) (shape g.I.Interner.projections c.args.graph.now) c.args.e.0 c.in_ok-ty.ty c.requires.ready.sound c.requires.ready.«open» c.requires.ready.within (c.requires.ready.reached, c.requires.adjusted, c.requires.ready.within) (never-cell (source_of c.args.context.now) c.args.e.0 c.requires.adjusted ∙ c.own_ty.ensures ∙ ap Some (sym c.in_ok-ty.ensures)) (shape g.I.Interner.projections c.never_for.new.self) c.in_ok-local.local.0 c.in_ok-local.ensures.old c.in_ok-local.ensures.new)
     c.in_ok-push_statement.ensures

@@ -6,4 +6,4 @@ use Rattle.mir_lower.proofs.Parameters.{MarksNames}
 use Rattle.mir_lower.proofs.params.lower_params.Given as goal
 
 abbrev pub invariant-loop-pat : goal.invariant-loop-pat
-invariant-loop-pat l = MarksNames (source_of l.context) (shape l.fn.graph) (shape l.graph) (take l.pat-index l.params) l.locals
+invariant-loop-pat g l = MarksNames (source_of l.context) (shape g.I.Interner.projections l.fn.graph) (shape g.I.Interner.projections l.graph) (take l.pat-index l.params) l.locals

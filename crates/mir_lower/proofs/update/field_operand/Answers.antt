@@ -11,12 +11,12 @@ use Rattle.mir_graph.specs.Graph.{shape}
 use Rattle.mir_lower.proofs.update.field_operand.Goals as goal
 
 pub unreachable-requires : goal.unreachable-requires
-unreachable-requires c =
+unreachable-requires g c =
     lacks-none c.args.operands.now c.in-Written.place (sym c.in_default.ensures) (subst (λ (source : FieldSource). IsAmong c.args.operands.now (core_source source)) c.in-Written.is c.requires.given)
 
 pub returns-in-Some : goal.returns-in-Some
-returns-in-Some c =
-    let s = shape c.args.graph.now in
+returns-in-Some g c =
+    let s = shape g.I.Interner.projections c.args.graph.now in
     let operands = c.args.operands.now in
     IfOk-weaker c.try_clone.result _ _
     (λ copy same. subst (λ (source : FieldSource). AreFound s s c.args.base operands (core_source source ∷ []) (copy ∷ [])) (sym c.in-Written.is)
@@ -24,12 +24,12 @@ returns-in-Some c =
     c.try_clone.ensures
 
 pub project-requires : goal.project-requires
-project-requires c = has-id (shape c.args.graph.now) c.args.graph.now.projections.law c.args.base c.requires.known
+project-requires g c = has-id (shape g.I.Interner.projections c.args.graph.now) (g.met.I.Interner.interned c.args.graph.now.projections) c.args.base c.requires.known
 
 pub returns-in_ok-place-in-OfBase : goal.returns-in_ok-place-in-OfBase
-returns-in_ok-place-in-OfBase c =
-    let old = shape c.args.graph.now in
-    let new = shape c.project.new.self in
+returns-in_ok-place-in-OfBase g c =
+    let old = shape g.I.Interner.projections c.args.graph.now in
+    let new = shape g.I.Interner.projections c.project.new.self in
     let made = c.in_ok-place-in-OfBase.place in
     let operand : Operand = record { kind = Copy made; span = None } in
     subst (λ (source : FieldSource). AreFound old new c.args.base c.args.operands.now (core_source source ∷ []) (operand ∷ [])) (sym c.in-OfBase.is)

@@ -12,24 +12,24 @@ use Rattle.mir_lower.proofs.Updates.{found-more, found-none, known-later}
 use Rattle.mir_lower.proofs.update.field_operands.Goals as goal
 
 pub loop-source-init : goal.loop-source-init
-loop-source-init c =
-    let s = shape c.args.graph.now in
+loop-source-init g c =
+    let s = shape g.I.Interner.projections c.args.graph.now in
     subst (λ (fields : List Operand). AreFound s s c.args.base c.args.operands.now [] fields) (sym c.new-fields.ensures) (found-none s c.args.base c.args.operands.now)
 
 pub field_operand-requires : goal.field_operand-requires
-field_operand-requires c =
+field_operand-requires g c =
     record {
-      known = known-later (shape c.args.graph.now) (shape c.loop-source.graph) c.args.base c.loop-source.invariant.more c.requires.known;
+      known = known-later (shape g.I.Interner.projections c.args.graph.now) (shape g.I.Interner.projections c.loop-source.graph) c.args.base c.loop-source.invariant.more c.requires.known;
       given = c.requires.given c.loop-source.source-index (source.Written 0) c.loop-source-test.true;
     }
 
 pub loop-source-preserved : goal.loop-source-preserved
-loop-source-preserved c =
+loop-source-preserved g c =
     let at = c.loop-source in
     let i = at.source-index in
-    let s0 = shape c.args.graph.now in
-    let s1 = shape at.graph in
-    let s2 = shape c.field_operand.new.graph in
+    let s0 = shape g.I.Interner.projections c.args.graph.now in
+    let s1 = shape g.I.Interner.projections at.graph in
+    let s2 = shape g.I.Interner.projections c.field_operand.new.graph in
     let base = c.args.base in
     let operands = c.args.operands.now in
     let from = get_or c.args.sources.now i (source.Written 0) in
@@ -40,6 +40,6 @@ loop-source-preserved c =
     (subst (λ (sources : List CoreSource). AreFound s0 s2 base operands sources (at.fields ++ field ∷ [])) sources-are both)
 
 pub returns : goal.returns
-returns c =
+returns g c =
     let at = c.loop-source in
-    subst (λ (sources : List FieldSource). AreFound (shape c.args.graph.now) (shape at.graph) c.args.base c.args.operands.now (map core_source sources) at.fields) (take_all at.source-index c.args.sources.now c.loop-source-test.false) at.invariant
+    subst (λ (sources : List FieldSource). AreFound (shape g.I.Interner.projections c.args.graph.now) (shape g.I.Interner.projections at.graph) c.args.base c.args.operands.now (map core_source sources) at.fields) (take_all at.source-index c.args.sources.now c.loop-source-test.false) at.invariant

@@ -7,4 +7,4 @@ use Rattle.mir_lower.specs.Updates.{AreFound}
 use Rattle.mir_lower.proofs.update.field_operands.Given as goal
 
 abbrev pub invariant-loop-source : goal.invariant-loop-source
-invariant-loop-source l = AreFound (shape l.fn.graph) (shape l.graph) l.base l.operands (map core_source (take l.source-index l.sources)) l.fields
+invariant-loop-source g l = AreFound (shape g.I.Interner.projections l.fn.graph) (shape g.I.Interner.projections l.graph) l.base l.operands (map core_source (take l.source-index l.sources)) l.fields

@@ -7,7 +7,7 @@ use Rattle.mir_graph.proofs.Targets.{meant-next}
 use Rattle.mir_graph.proofs.graph.Graph.innermost.Goals as goal
 
 pub returns-then-is_meant : goal.returns-then-is_meant
-returns-then-is_meant c =
+returns-then-is_meant g c =
     let items = c.args.self.now.loops.items in
     let blocks = c.index.result.now in
     let k = c.loop-left.left - 1 in
@@ -22,7 +22,7 @@ returns-then-is_meant c =
     )
 
 pub loop-left-preserved : goal.loop-left-preserved
-loop-left-preserved c =
+loop-left-preserved g c =
     let items = c.args.self.now.loops.items in
     let blocks = c.index.result.now in
     let k = c.loop-left.left - 1 in
@@ -38,7 +38,7 @@ loop-left-preserved c =
 
 pub returns : goal.returns
 unfolding meant_target
-returns c =
+returns g c =
     let none = c.loop-left-test.false in
     let last : c.loop-left.left ≡ 0 = omega (arith, none) in
     sym (c.loop-left.invariant.1 ∙ ap (λ n. meant_target c.args.label (targets_of (take n c.args.self.now.loops.items))) last)

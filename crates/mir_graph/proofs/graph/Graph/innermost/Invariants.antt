@@ -4,7 +4,7 @@ use Rattle.mir_graph.specs.Graph.{meant_target, targets_of}
 use Rattle.mir_graph.proofs.graph.Graph.innermost.Given as goal
 
 abbrev pub invariant-loop-left : goal.invariant-loop-left
-invariant-loop-left l = (l.left ≤ length l.self.loops.items) × (meant_target l.label (targets_of l.self.loops.items) ≡ meant_target l.label (targets_of (take l.left l.self.loops.items)))
+invariant-loop-left g l = (l.left ≤ length l.self.loops.items) × (meant_target l.label (targets_of l.self.loops.items) ≡ meant_target l.label (targets_of (take l.left l.self.loops.items)))
 
 abbrev pub decreases-loop-left : goal.decreases-loop-left
-decreases-loop-left l = l.left
+decreases-loop-left g l = l.left
