@@ -97,8 +97,8 @@ abbrev pub no_temps : Temps
 no_temps = record { value = None; never = None; index = None }
 
 -- one current block, the return slot, no binding, and no expression with a local yet
-abbrev pub first_shape : Ty → ℕ → Shape
-first_shape ty nodes =
+abbrev pub first_shape : Ty → ℕ → List Projection → Shape
+first_shape ty nodes kept =
     record {
       blocks = no_statements ∷ [];
       current = 0;
@@ -107,7 +107,7 @@ first_shape ty nodes =
       temps = replicate nodes no_temps;
       scope = [];
       targets = [];
-      projections = [] ∷ [];
+      projections = kept;
     }
 
 -- a block with one more statement

@@ -109,11 +109,9 @@ fn is_meant(label: Option<LabelId>, blocks: &LoopBlocks) -> bool
 }
 
 impl<I: Interner + Drop> Graph<I> {
-    /// One open block and the return slot, for a body of `nodes` expressions, over an interner that holds no projection but the
-    /// empty one.
+    /// One open block and the return slot, for a body of `nodes` expressions, over the projections that an interner keeps.
     pub fn new(alloc: Global, ty: Ty, nodes: u64, projections: I) -> Result<Graph<I>, NoMemory>
-        requires { I.projections projections ≡ [] ∷ [] }
-        ensures { IfOk result (λ graph. shape I.projections graph ≡ first_shape ty nodes) }
+        ensures { IfOk result (λ graph. shape I.projections graph ≡ first_shape ty nodes (I.projections projections)) }
     {
         let mut blocks = Vec::new(alloc);
         blocks.push(empty_block(alloc))?;

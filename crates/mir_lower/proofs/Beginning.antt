@@ -7,6 +7,7 @@ use Rattle.std.proofs.Math.ListN.{length-replicate}
 use Rattle.types.specs.declared.ty.Ty.{Ty}
 use Rattle.mir.specs.declared.body.Local.{Local}
 use Rattle.mir.specs.declared.ids.LocalId.{LocalId}
+use Rattle.mir.specs.Projections.{Projection}
 use Rattle.mir_graph.specs.declared.graph.Temps.{Temps}
 use Rattle.source_meaning.specs.Source.{Source, Cell, Result, Node, Binding, IndexOf, Never, binding_type, cell_type, node_type, root}
 use Rattle.mir_graph.specs.Graph.{Shape, no_statements, no_temps, first_shape, local_at, local_of, local_of_type, binding_local, temp_at, temp_of, never_of, index_local, with_binding, with_scope}
@@ -21,18 +22,18 @@ none-at which none zero e l h = cc
 none-at which none (suc n) zero l h = cc
 none-at which none (suc n) (suc e) l h = none-at which none n e l h
 
-first-cell : (ty : Ty) (nodes : ℕ) (c : Cell) (l : ℕ) → local_of (first_shape ty nodes) c ≡ Some l → (c ≡ Result) × (l ≡ 0)
+first-cell : (ty : Ty) (nodes : ℕ) (kept : List Projection) (c : Cell) (l : ℕ) → local_of (first_shape ty nodes kept) c ≡ Some l → (c ≡ Result) × (l ≡ 0)
 unfolding temp_of never_of index_local binding_local
-first-cell ty nodes Result l h = (refl, (let same : 0 ≡ l = cc in sym same))
-first-cell ty nodes (Node e) l h = absurd (none-at (λ temps. temps.value) refl nodes e l h)
-first-cell ty nodes (Binding b) l h = cc
-first-cell ty nodes (Never e) l h = absurd (none-at (λ temps. temps.never) refl nodes e l h)
-first-cell ty nodes (IndexOf e) l h = absurd (none-at (λ temps. temps.index) refl nodes e l h)
+first-cell ty nodes kept Result l h = (refl, (let same : 0 ≡ l = cc in sym same))
+first-cell ty nodes kept (Node e) l h = absurd (none-at (λ temps. temps.value) refl nodes e l h)
+first-cell ty nodes kept (Binding b) l h = cc
+first-cell ty nodes kept (Never e) l h = absurd (none-at (λ temps. temps.never) refl nodes e l h)
+first-cell ty nodes kept (IndexOf e) l h = absurd (none-at (λ temps. temps.index) refl nodes e l h)
 
 -- without a binding
-pub first-none : (source : Source) (ty : Ty) (nodes : ℕ) → nodes ≡ length source.body.exprs → node_type source (root source) ≡ Some ty → IsFirst source 0 (first_shape ty nodes)
+pub first-none : (source : Source) (ty : Ty) (nodes : ℕ) (kept : List Projection) → nodes ≡ length source.body.exprs → node_type source (root source) ≡ Some ty → IsFirst source 0 (first_shape ty nodes kept)
 unfolding first_locals
-first-none source ty nodes many typed =
+first-none source ty nodes kept many typed =
     record {
       blocks = refl;
       current = refl;
@@ -43,12 +44,12 @@ first-none source ty nodes many typed =
       bindings = refl;
       bound = λ b t less h. absurd (omega arith);
       allotted = record {
-        typed = λ c l h. let is = first-cell ty nodes c l h in (local_of_type ty, ap (slice_get (local_of_type ty ∷ [])) is.1, ap (cell_type source) is.0 ∙ typed);
-        own = λ c d l h k. (first-cell ty nodes c l h).0 ∙ sym (first-cell ty nodes d l k).0;
+        typed = λ c l h. let is = first-cell ty nodes kept c l h in (local_of_type ty, ap (slice_get (local_of_type ty ∷ [])) is.1, ap (cell_type source) is.0 ∙ typed);
+        own = λ c d l h k. (first-cell ty nodes kept c l h).0 ∙ sym (first-cell ty nodes kept d l k).0;
         cells = only;
       };
     } where
-      only : (l : ℕ) (local : Local) → slice_get (local_of_type ty ∷ []) l ≡ Some local → (cell : Cell) × IsStored source cell × (local_of (first_shape ty nodes) cell ≡ Some l) × (cell_type source cell ≡ Some local.ty)
+      only : (l : ℕ) (local : Local) → slice_get (local_of_type ty ∷ []) l ≡ Some local → (cell : Cell) × IsStored source cell × (local_of (first_shape ty nodes kept) cell ≡ Some l) × (cell_type source cell ≡ Some local.ty)
       only zero local h = (let same : local_of_type ty ≡ local = cc in (Result, tt, refl, typed ∙ ap (λ (l : Local). Some l.ty) same))
       only (suc l) local h = cc
 

@@ -1,6 +1,6 @@
 //! The graph that lowering begins with.
 
-ghost use Rattle.std.specs.Prelude.{◌≡◌, ◌∷◌, [], length, IfOk, OnOk};
+ghost use Rattle.std.specs.Prelude.{◌≡◌, length, IfOk, OnOk};
 ghost use Rattle.world.specs.Checked.{IsCheckedBody};
 ghost use Rattle.source_meaning.specs.Source.{binding_type};
 ghost use Rattle.body_forms.specs.Contexts.{source_of};
@@ -27,13 +27,12 @@ fn push_binding<I: Interner>(
 }
 
 /// The graph that lowering begins with: one open block, the return slot, and a local for each binding that no closure
-/// owns, by rising id. The interner holds no projection but the empty one.
+/// owns, by rising id. It is over the projections that the interner keeps.
 pub(crate) fn first_graph<I: Interner + Drop>(
     context: &Context<'_>,
     projections: I,
 ) -> Result<Graph<I>, NoMemory>
-    requires checked { IsCheckedBody context.now.body.now context.now.infer.now }
-    requires empty { I.projections projections ≡ [] ∷ [] }
+    requires { IsCheckedBody context.now.body.now context.now.infer.now }
     ensures { IfOk result (λ graph. IsFirst (source_of context.now) (length context.now.body.now.bindings) (shape I.projections graph)) }
 {
     let ty = node_ty(context, context.body.body_expr).try_clone(context.alloc)?;

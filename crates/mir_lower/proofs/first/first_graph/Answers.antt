@@ -10,7 +10,7 @@ pub loop-place-init : goal.loop-place-init
 loop-place-init g c =
     let source = source_of c.args.context.now in
     subst (IsFirst source 0) (sym c.in_ok-graph.ensures)
-    (first-none source c.in_ok-ty.ty c.len.result c.len.ensures (c.node_ty.ensures ∙ ap Some (sym c.in_ok-ty.ensures)))
+    (first-none source c.in_ok-ty.ty c.len.result (g.I.Interner.projections c.args.projections) c.len.ensures (c.node_ty.ensures ∙ ap Some (sym c.in_ok-ty.ensures)))
 
 pub loop-place-preserved : goal.loop-place-preserved
 loop-place-preserved g c =
