@@ -7,8 +7,8 @@ use mir::{
 use std::alloc::Global;
 use std::test::Fail;
 use world::{
-    Box, Bytes, Const, ConstId, ConstRow, Crate, CrateRow, DefWithBodyId, HirDatabase, Layout,
-    List, MemoryMap, NoMemory, Ty, UintTy, ValueConst, Variants,
+    Bytes, Const, ConstId, ConstRow, Crate, CrateRow, DefWithBodyId, HirDatabase, Layout, List,
+    MemoryMap, NoMemory, Ty, UintTy, ValueConst, Variants,
 };
 use world_check::CheckedWorld;
 
@@ -21,7 +21,7 @@ pub(crate) const SLOT: Place = Place {
     projection: ProjectionId(0),
 };
 
-pub(crate) fn u64_type() -> Ty {
+fn u64_type() -> Ty {
     Ty::Uint(UintTy::U64)
 }
 
@@ -49,49 +49,11 @@ fn tables_of_one(alloc: Global) -> Result<HirDatabase, NoMemory> {
     Ok(db)
 }
 
-/// The type of arrays of three numbers of the type `u64`.
-pub(crate) fn array_type(alloc: Global) -> Result<Ty, NoMemory> {
-    let len = Const::Value(ValueConst {
-        ty: Ty::Uint(UintTy::Usize),
-        memory: Bytes::from_slice(alloc, &[3, 0, 0, 0, 0, 0, 0, 0])?,
-        memory_map: MemoryMap::Empty,
-    });
-    Ok(Ty::Array(Box::new(alloc, u64_type())?, Box::new(alloc, len)?))
-}
-
-/// A world of one constant of the type `u64`, with the layout of those arrays.
-pub(crate) fn world_with_arrays(alloc: Global) -> Result<CheckedWorld, Fail> {
-    let mut db = tables_of_one(alloc)?;
-    let layout = Layout {
-        size: 24,
-        align: 8,
-        sized: true,
-        offsets: List::new(alloc),
-        variants: Variants::Single(0),
-    };
-    db.layouts.push((array_type(alloc)?, layout))?;
-    match CheckedWorld::new(alloc, db) {
-        Ok(world) => Ok(world),
-        Err(_) => Err(Fail::new("the world with arrays is refused")),
-    }
-}
-
 /// A world of one constant of the type `u64`.
 pub(crate) fn world_of_one(alloc: Global) -> Result<CheckedWorld, Fail> {
     match CheckedWorld::new(alloc, tables_of_one(alloc)?) {
         Ok(world) => Ok(world),
         Err(_) => Err(Fail::new("the world of one constant is refused")),
-    }
-}
-
-/// A constant of this type with these bytes, as an operand.
-pub(crate) fn constant(ty: Ty, value: ValueConst) -> Operand {
-    Operand {
-        kind: OperandKind::Constant {
-            konst: Const::Value(value),
-            ty,
-        },
-        span: None,
     }
 }
 
@@ -107,15 +69,11 @@ pub(crate) fn number(alloc: Global, number: u8) -> Result<Operand, NoMemory> {
         memory,
         memory_map: MemoryMap::Empty,
     };
-    Ok(constant(u64_type(), value))
-}
-
-/// What a local has, as an operand.
-pub(crate) fn copy_of(local: u32) -> Operand {
-    Operand {
-        kind: OperandKind::Copy(Place::from(LocalId(local))),
-        span: None,
-    }
+    let kind = OperandKind::Constant {
+        konst: Const::Value(value),
+        ty: u64_type(),
+    };
+    Ok(Operand { kind, span: None })
 }
 
 pub(crate) fn statement(kind: StatementKind) -> Statement {

@@ -1,13 +1,9 @@
-//! Parts of the program by themselves, where no run reaches what is tested: a switch, the machine and its calls alone, a
-//! body that is checked by itself, constants of literals, and texts that no run writes yet.
+//! Parts of the program by themselves, where no run reaches what is tested: a switch, the machine alone, a body that is
+//! checked by itself, constants of literals, and texts that no run writes yet.
 #![tactic(auto)]
 
 #[cfg(test)]
-mod arrays;
-#[cfg(test)]
 mod bodies;
-#[cfg(test)]
-mod calls;
 #[cfg(test)]
 mod constants;
 #[cfg(test)]

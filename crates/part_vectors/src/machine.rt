@@ -54,7 +54,7 @@ fn switching_blocks(alloc: Global, discr: u8) -> Result<List<BasicBlock>, NoMemo
 }
 
 /// A machine over a flat memory that is about to enter the first block of a body.
-pub(crate) fn begun<'a>(
+fn begun<'a>(
     alloc: Global,
     db: &'a HirDatabase,
     body: Rc<MirBody>,
