@@ -12,16 +12,27 @@ use Rattle.mir.specs.declared.operand.UnOp.{UnOp}
 use Rattle.mir.specs.Run.{answered, cast_to, operated, operated_on}
 use Rattle.mir_eval.proofs.Wide.{no-answer, no-answer-of-one, no-conversion}
 
--- what the table would answer for two operands of one kind is what the run has
-pub operated_if_made : {A : Type 0} (bytes : A → List ℕ) (result : Option A) (op : Operator) (kind : Kind) (left_type right_type : Option Ty) (first second : Option (List ℕ)) (left right : List ℕ) → option_and_then kind_of left_type ≡ Some kind → option_and_then kind_of right_type ≡ Some kind → first ≡ Some left → second ≡ Some right → IfSome result (λ made. computed op (Some kind) (Some kind) left right ≡ Computes (bytes made)) → IfSome result (λ made. operated op left_type right_type first second ≡ Ok (bytes made))
+-- what the table would answer for two operands is what the run has
+pub operated_if_made : {A : Type 0} (bytes : A → List ℕ) (result : Option A) (op : Operator) (kind other : Kind) (left_type right_type : Option Ty) (first second : Option (List ℕ)) (left right : List ℕ) → option_and_then kind_of left_type ≡ Some kind → option_and_then kind_of right_type ≡ Some other → first ≡ Some left → second ≡ Some right → IfSome result (λ made. computed op (Some kind) (Some other) left right ≡ Computes (bytes made)) → IfSome result (λ made. operated op left_type right_type first second ≡ Ok (bytes made))
 unfolding operated answered
-operated_if_made bytes None op kind left_type right_type first second left right h k f g is = tt
-operated_if_made bytes (Some made) op kind left_type right_type first second left right h k f g is =
+operated_if_made bytes None op kind other left_type right_type first second left right h k f g is = tt
+operated_if_made bytes (Some made) op kind other left_type right_type first second left right h k f g is =
     ap (λ (x : Option (List ℕ)). operated op left_type right_type x second) f
     ∙ ap (λ (x : Option (List ℕ)). operated op left_type right_type (Some left) x) g
     ∙ ap (λ (x : Option Kind). answered (computed op x (option_and_then kind_of right_type) left right)) h
     ∙ ap (λ (x : Option Kind). answered (computed op (Some kind) x left right)) k
     ∙ ap answered is
+
+-- what a cast was to make is what the run has
+pub cast-made : (to : Ty) (from : Option Ty) (kind : Kind) (size : ℕ) (first : Option (List ℕ)) (bytes made : List ℕ) → option_and_then kind_of from ≡ Some kind → fixed_size to ≡ Some size → first ≡ Some bytes → converted (Some kind) size bytes ≡ Computes made → cast_to to from first ≡ Ok made
+unfolding cast_to answered
+cast-made to from kind size first bytes made own own_size are is =
+    ap (cast_to to from) are
+    ∙ ap of-size own_size
+    ∙ ap (λ (k : Option Kind). answered (converted k size bytes)) own
+    ∙ ap answered is where
+      of-size : Option ℕ → Result (List ℕ) MirEvalError
+      of-size found = elim found [ Some count ↦ answered (converted (option_and_then kind_of from) count bytes) | None ↦ answered Undefined ]
 
 -- operands of more than 16 bytes
 pub operated-wide : (op : Operator) (left_type right_type : Option Ty) (first second : Option (List ℕ)) (left right : List ℕ) → first ≡ Some left → second ≡ Some right → (16 < length left) ⊎ (16 < length right) →

@@ -2,10 +2,11 @@
 use Rattle.std.proofs.Common.{◌≡◌, ℕ, Bool, true, false, ◌||◌, List, [], ◌∷◌, length, slice_index_or, Option, Some, None, Result, Ok, refl, sym, ap, ◌∙◌, subst, arith}
 use Rattle.std.specs.Prelude.{IfSome, if◌then◌else◌, ◌==◌, option_map, option_and_then}
 use Rattle.std.specs.List.{concat}
+use Rattle.types.specs.declared.ty.Ty.{Ty}
 use Rattle.numbers.specs.Bytes.{value_of}
 use Rattle.numbers.specs.declared.operator.Kind.{Kind}
 use Rattle.numbers.specs.declared.operator.Operator.{Operator}
-use Rattle.numbers.specs.Operators.{Computes, computed}
+use Rattle.numbers.specs.Operators.{Computes, computed, converted}
 use Rattle.mir.specs.declared.address.Interval.{Interval}
 use Rattle.mir.specs.declared.body.Terminator.{Terminator}
 use Rattle.mir.specs.declared.body.TerminatorKind.{TerminatorKind}
@@ -37,11 +38,13 @@ use Rattle.mir_rows.specs.declared.row.Way.{Way}
 use Rattle.mir_rows.specs.declared.row.Way.TheVariants as way
 use Rattle.mir_rows.specs.declared.spots.Spot.{Spot}
 use Rattle.mir_rows.specs.declared.spots.Spot.TheVariants as at
-use Rattle.mir_rows.specs.Rows.{AreOperands, IsSource, IsWay, Leads, Says, constant_in, short_bytes}
+use Rattle.mir_rows.specs.Rows.{AreOperands, IsCast, IsSource, IsWay, Leads, Says, constant_in, short_bytes}
 use Rattle.mir_rows.specs.Spots.{IsSpot, LiesAt, spot_cell}
+use Rattle.mir_eval.specs.declared.faults.Fault.{Fault}
 use Rattle.mir_eval.specs.Frames.{code_in}
-use Rattle.mir_eval.specs.Reads.{HasBytes, HoldsAt, LiesIn, Makes}
-use Rattle.mir_eval.proofs.Operated.{operated_if_made}
+use Rattle.mir_eval.specs.Steps.{left_with}
+use Rattle.mir_eval.specs.Reads.{Converts, HasBytes, HoldsAt, LiesIn, Makes}
+use Rattle.mir_eval.proofs.Operated.{cast-made, operated_if_made}
 
 -- a list of one byte
 pub one-byte : (bytes : List ℕ) → length bytes ≡ 1 → bytes ≡ slice_index_or bytes 0 0 ∷ []
@@ -114,48 +117,87 @@ module _ (frame : Frame) (memory : Memory) where
       record { has = constant-bytes bytes kind constant; within = constant-within bytes kind constant }
 
   -- what an operator makes of two sources
-  pub combined : (op : Operator) (kind : Kind) (left right : Source) (made : Option Made) (left_pieces right_pieces : List (List ℕ)) (l r : List ℕ) → l ≡ concat left_pieces → r ≡ concat right_pieces →
+  pub combined : (op : Operator) (kind other : Kind) (left right : Source) (made : Option Made) (left_pieces right_pieces : List (List ℕ)) (l r : List ℕ) → l ≡ concat left_pieces → r ≡ concat right_pieces →
       ((one : OperandKind) → IsSource (code_in frame) left one → HasBytes frame memory one (concat left_pieces)) → ((one : OperandKind) → IsSource (code_in frame) right one → HasBytes frame memory one (concat right_pieces)) →
-      IfSome made (λ m. computed op (Some kind) (Some kind) l r ≡ Computes (made_bytes m)) →
-      IfSome made (λ m. (one other : OperandKind) → AreOperands (code_in frame) kind left right one other → Makes frame memory op one other (made_bytes m))
-  combined op kind left right None left_pieces right_pieces l r le re lf rf computes = tt
-  combined op kind left right (Some m) left_pieces right_pieces l r le re lf rf computes =
-      λ one other are.
+      IfSome made (λ m. computed op (Some kind) (Some other) l r ≡ Computes (made_bytes m)) →
+      IfSome made (λ m. (one two : OperandKind) → AreOperands (code_in frame) kind other left right one two → Makes frame memory op one two (made_bytes m))
+  combined op kind other left right None left_pieces right_pieces l r le re lf rf computes = tt
+  combined op kind other left right (Some m) left_pieces right_pieces l r le re lf rf computes =
+      λ one two are.
       let first = lf one are.left in
-      let second = rf other are.right in
+      let second = rf two are.right in
       record {
         makes =
-            operated_if_made made_bytes (Some m) op kind (operand_type frame.program.world frame.body one) (operand_type frame.program.world frame.body other) (operand_bytes frame memory one) (operand_bytes frame memory other) l r
+            operated_if_made made_bytes (Some m) op kind other (operand_type frame.program.world frame.body one) (operand_type frame.program.world frame.body two) (operand_bytes frame memory one) (operand_bytes frame memory two) l r
             are.left_kind are.right_kind (first.has ∙ ap Some (sym le)) (second.has ∙ ap Some (sym re)) computes;
-        within = either-false (operand_out frame.program.world frame.body (number_held memory frame.cells) one) (operand_out frame.program.world frame.body (number_held memory frame.cells) other) first.within second.within;
+        within = either-false (operand_out frame.program.world frame.body (number_held memory frame.cells) one) (operand_out frame.program.world frame.body (number_held memory frame.cells) two) first.within second.within;
+      }
+
+  -- what a cast makes of a source
+  pub converted-source : (kind : Kind) (size : ℕ) (from : Source) (made : Option Made) (pieces : List (List ℕ)) (bytes : List ℕ) → bytes ≡ concat pieces →
+      ((one : OperandKind) → IsSource (code_in frame) from one → HasBytes frame memory one (concat pieces)) →
+      IfSome made (λ m. converted (Some kind) size bytes ≡ Computes (made_bytes m)) →
+      IfSome made (λ m. (one : OperandKind) (ty : Ty) → IsCast (code_in frame) kind size from one ty → Converts frame memory one ty (made_bytes m))
+  converted-source kind size from None pieces bytes are has computes = tt
+  converted-source kind size from (Some m) pieces bytes are has computes =
+      λ one ty is.
+      let held = has one is.source in
+      record {
+        makes = cast-made ty (operand_type frame.program.world frame.body one) kind size (operand_bytes frame memory one) bytes (made_bytes m) is.own_kind is.own_size (held.has ∙ ap Some (sym are)) computes;
+        within = held.within;
       }
 
   module _ (out : Result Memory MirEvalError) (to : Spot) (cell : Interval) (lies : LiesIn frame memory to cell) where
-    combines : (op : Operator) (kind : Kind) (left right : Source) (m : Made) →
-        ((one other : OperandKind) → AreOperands (code_in frame) kind left right one other → Makes frame memory op one other (made_bytes m)) → out ≡ copied memory (Some cell) (Ok (made_bytes m)) →
-        (statement : StatementKind) → Says (code_in frame) (action.Combine op kind to left right) statement → out ≡ after_statement frame memory statement
+    combines : (op : Operator) (kind other_kind : Kind) (left right : Source) (m : Made) →
+        ((one other : OperandKind) → AreOperands (code_in frame) kind other_kind left right one other → Makes frame memory op one other (made_bytes m)) → out ≡ copied memory (Some cell) (Ok (made_bytes m)) →
+        (statement : StatementKind) → Says (code_in frame) (action.Combine op kind other_kind to left right) statement → out ≡ after_statement frame memory statement
     unfolding rvalue_bytes reads_out
-    combines op kind left right m makes is (Assign place (CheckedBinaryOp operator one other)) says =
+    combines op kind other_kind left right m makes is (Assign place (CheckedBinaryOp operator one other)) says =
         is
         ∙ ap (λ (found : Option Interval). copied memory found (Ok (made_bytes m))) (sym (says.0.lies (number_held memory frame.cells) frame.cells ∙ lies.there))
         ∙ ap (copied memory (cell_now frame memory place))
         (sym (makes one.kind other.kind says.2).makes ∙ ap (λ (o : Operator). operated o (operand_type frame.program.world frame.body one.kind) (operand_type frame.program.world frame.body other.kind) (operand_bytes frame memory one.kind) (operand_bytes frame memory other.kind)) (sym says.1))
         ∙ assigned-within place to cell lies (CheckedBinaryOp operator one other) says.0 (makes one.kind other.kind says.2).within
-    combines op kind left right m makes is (Assign place (Use given)) says = absurd says
-    combines op kind left right m makes is (Assign place (UnaryOp operator given)) says = absurd says
-    combines op kind left right m makes is (Assign place (Cast cast given ty)) says = absurd says
-    combines op kind left right m makes is (Assign place (Repeat given len)) says = absurd says
-    combines op kind left right m makes is (Assign place (Aggregate made parts)) says = absurd says
-    combines op kind left right m makes is (FakeRead place) says = absurd says
-    combines op kind left right m makes is (StorageLive local) says = absurd says
-    combines op kind left right m makes is (StorageDead local) says = absurd says
+    combines op kind other_kind left right m makes is (Assign place (Use given)) says = absurd says
+    combines op kind other_kind left right m makes is (Assign place (UnaryOp operator given)) says = absurd says
+    combines op kind other_kind left right m makes is (Assign place (Cast cast given ty)) says = absurd says
+    combines op kind other_kind left right m makes is (Assign place (Repeat given len)) says = absurd says
+    combines op kind other_kind left right m makes is (Assign place (Aggregate made parts)) says = absurd says
+    combines op kind other_kind left right m makes is (FakeRead place) says = absurd says
+    combines op kind other_kind left right m makes is (StorageLive local) says = absurd says
+    combines op kind other_kind left right m makes is (StorageDead local) says = absurd says
 
     -- a statement that assigns what an operator makes
-    pub does-combine : (given : Action) (op : Operator) (kind : Kind) (left right : Source) (m : Made) → given ≡ action.Combine op kind to left right →
-        ((one other : OperandKind) → AreOperands (code_in frame) kind left right one other → Makes frame memory op one other (made_bytes m)) → out ≡ copied memory (Some cell) (Ok (made_bytes m)) →
+    pub does-combine : (given : Action) (op : Operator) (kind other_kind : Kind) (left right : Source) (m : Made) → given ≡ action.Combine op kind other_kind to left right →
+        ((one other : OperandKind) → AreOperands (code_in frame) kind other_kind left right one other → Makes frame memory op one other (made_bytes m)) → out ≡ copied memory (Some cell) (Ok (made_bytes m)) →
         (statement : StatementKind) → Says (code_in frame) given statement → out ≡ after_statement frame memory statement
     does-combine given op kind left right m same makes is statement says =
-        combines op kind left right m makes is statement (subst (λ (a : Action). Says (code_in frame) a statement) same says)
+        combines op kind other_kind left right m makes is statement (subst (λ (a : Action). Says (code_in frame) a statement) same says)
+
+    -- or what a cast makes
+    casts : (kind : Kind) (size : ℕ) (from : Source) (m : Made) →
+        ((one : OperandKind) (ty : Ty) → IsCast (code_in frame) kind size from one ty → Converts frame memory one ty (made_bytes m)) → out ≡ copied memory (Some cell) (Ok (made_bytes m)) →
+        (statement : StatementKind) → Says (code_in frame) (action.Cast kind size to from) statement → out ≡ after_statement frame memory statement
+    unfolding rvalue_bytes reads_out
+    casts kind size from m makes is (Assign place (Cast cast one ty)) says =
+        is
+        ∙ ap (λ (found : Option Interval). copied memory found (Ok (made_bytes m))) (sym (says.0.lies (number_held memory frame.cells) frame.cells ∙ lies.there))
+        ∙ ap (copied memory (cell_now frame memory place)) (sym (makes one.kind ty says.1).makes)
+        ∙ assigned-within place to cell lies (Cast cast one ty) says.0 (makes one.kind ty says.1).within
+    casts kind size from m makes is (Assign place (CheckedBinaryOp operator one other)) says = absurd says
+    casts kind size from m makes is (Assign place (Use given)) says = absurd says
+    casts kind size from m makes is (Assign place (UnaryOp operator given)) says = absurd says
+    casts kind size from m makes is (Assign place (Repeat given len)) says = absurd says
+    casts kind size from m makes is (Assign place (Aggregate made parts)) says = absurd says
+    casts kind size from m makes is (FakeRead place) says = absurd says
+    casts kind size from m makes is (StorageLive local) says = absurd says
+    casts kind size from m makes is (StorageDead local) says = absurd says
+
+    pub does-cast : (given : Action) (kind : Kind) (size : ℕ) (from : Source) (m : Made) → given ≡ action.Cast kind size to from →
+        ((one : OperandKind) (ty : Ty) → IsCast (code_in frame) kind size from one ty → Converts frame memory one ty (made_bytes m)) → out ≡ copied memory (Some cell) (Ok (made_bytes m)) →
+        (statement : StatementKind) → Says (code_in frame) given statement → out ≡ after_statement frame memory statement
+    does-cast given kind size from m same makes is statement says =
+        casts kind size from m makes is statement (subst (λ (a : Action). Says (code_in frame) a statement) same says)
 
     -- or the bytes of one operand
     puts : (bytes : Result (List ℕ) MirEvalError) → out ≡ copied memory (Some cell) bytes →
@@ -200,6 +242,13 @@ module _ (frame : Frame) (memory : Memory) where
     pub does-put : (given : Action) (short : Short) → given ≡ action.Put to short → out ≡ copied memory (Some cell) (Ok (short_bytes short)) →
         (statement : StatementKind) → Says (code_in frame) given statement → out ≡ after_statement frame memory statement
     does-put given short same does statement says = puts-short short does statement (subst (λ (a : Action). Says (code_in frame) a statement) same says)
+
+  -- the same where a copy may not have been done
+  pub copy-done : (after : Memory) (result : Option (Result (Unit {0}) Fault)) (to : Spot) (cell : Interval) → LiesIn frame memory to cell → (given : Action) (from : Spot) (there : Interval) → LiesIn frame memory from there → given ≡ action.Copy to from →
+      IfSome result (λ done. left_with after done ≡ copied memory (Some cell) (read (cell_bytes memory there))) →
+      IfSome result (λ done. (statement : StatementKind) → Says (code_in frame) given statement → left_with after done ≡ after_statement frame memory statement)
+  copy-done after None to cell lies given from there stands same does = tt
+  copy-done after (Some done) to cell lies given from there stands same does = does-copy (left_with after done) to cell lies given from there stands same does
 
   -- a terminator of each kind that leads to one block
   goto-kind : (block : BasicBlockId) (terminator : Terminator) (kind : TerminatorKind) → Leads (code_in frame) (way.Goto block) kind → terminated frame memory (Some (record terminator { kind = kind })) ≡ GoesTo frame memory block.0

@@ -1,10 +1,11 @@
 -- What rows read of a frame and its memory: values that lie at spots, and operands within bounds.
 use Rattle.std.specs.Prelude.{◌≡◌, ℕ, ◌||◌, false, List, Some, Ok}
 use Rattle.numbers.specs.declared.operator.Operator.{Operator}
+use Rattle.types.specs.declared.ty.Ty.{Ty}
 use Rattle.mir.specs.declared.address.Interval.{Interval}
 use Rattle.mir.specs.declared.operand.OperandKind.{OperandKind}
 use Rattle.mir.specs.Memory.{Memory, cell_bytes, number_held}
-use Rattle.mir.specs.Run.{Frame, operand_bytes, operand_out, operand_type, operated}
+use Rattle.mir.specs.Run.{Frame, cast_to, operand_bytes, operand_out, operand_type, operated}
 use Rattle.mir_rows.specs.declared.spots.Spot.{Spot}
 use Rattle.mir_rows.specs.Spots.{LiesNow}
 
@@ -27,3 +28,8 @@ pub record HasBytes (frame : Frame) (memory : Memory) (operand : OperandKind) (b
 pub record Makes (frame : Frame) (memory : Memory) (op : Operator) (one other : OperandKind) (bytes : List ℕ) : Type 0 where
   pub makes : operated op (operand_type frame.program.world frame.body one) (operand_type frame.program.world frame.body other) (operand_bytes frame memory one) (operand_bytes frame memory other) ≡ Ok bytes
   pub within : (operand_out frame.program.world frame.body (number_held memory frame.cells) one || operand_out frame.program.world frame.body (number_held memory frame.cells) other) ≡ false
+
+-- an operand is within bounds now, and a cast to a type makes these bytes of it
+pub record Converts (frame : Frame) (memory : Memory) (one : OperandKind) (ty : Ty) (bytes : List ℕ) : Type 0 where
+  pub makes : cast_to ty (operand_type frame.program.world frame.body one) (operand_bytes frame memory one) ≡ Ok bytes
+  pub within : operand_out frame.program.world frame.body (number_held memory frame.cells) one ≡ false

@@ -77,6 +77,19 @@ fn follow<M: Memory>(frame: StackFrame<'_, '_>, memory: &M, way: &Way) -> Option
     }
 }
 
+/// What a terminator does, as the loop over blocks calls for it: what the call needs is made ready here.
+#[inline(always)]
+fn leave_block<M: Memory>(
+    frame: StackFrame<'_, '_>,
+    memory: &M,
+    terminator: &Option<Terminator>,
+) -> Result<Exit, Fault>
+    ensures next { next_of (frame_of frame.entry) (M.areas memory.now) terminator.now result ≡ terminated (frame_of frame.entry) (M.areas memory.now) terminator.now }
+    ensures call { result ≡ Ok Calls → IsSome (option_and_then call_of terminator.now) }
+{
+    terminate(frame, memory, terminator)
+}
+
 /// How a block ends.
 #[inline(always)]
 fn end<M: Memory>(
@@ -91,7 +104,7 @@ fn end<M: Memory>(
 {
     match follow(frame, memory, way) {
         Some(block) => Ok(Exit::GoesTo(block)),
-        None => terminate(frame, memory, terminator),
+        None => Ok(leave_block(frame, memory, terminator)?),
     }
 }
 

@@ -1,4 +1,4 @@
--- The bytes of what an operator makes of two operands.
+-- The bytes of what an operator or a cast makes.
 use Rattle.std.specs.Prelude.{ℕ, List}
 use Rattle.std.specs.Int.{from_bool}
 use Rattle.numbers.specs.Bytes.{low_digits}
@@ -14,7 +14,7 @@ bytes_in Two = 2
 bytes_in Four = 4
 bytes_in Eight = 8
 
--- the bytes of what an operator made of two operands
+-- the bytes of what an operator or a cast made
 abbrev pub made_bytes : Made → List ℕ
 made_bytes (made.Word1 word) = low_digits 1 word
 made_bytes (made.Word2 word) = low_digits 2 word

@@ -1,4 +1,4 @@
-//! What an operator makes of two operands: a number or a truth value, which stays in registers until its bytes are
+//! What an operator or a cast makes: a number or a truth value, which stays in registers until its bytes are
 //! stored.
 
 ghost use Rattle.std.specs.Prelude.{◌≡◌, IfSome};
@@ -15,7 +15,7 @@ pub(crate) enum Size {
     Eight,
 }
 
-/// What an operator makes of two operands. A number is in two's complement if it's signed.
+/// What an operator or a cast makes. A number is in two's complement if it's signed.
 #[derive(Clone, Copy)]
 pub enum Made {
     /// A number of 1 byte: the lowest byte of a word.

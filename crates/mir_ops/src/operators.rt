@@ -7,6 +7,7 @@ ghost use Rattle.mir_ops.specs.Made.{bytes_in, made_bytes};
 
 use crate::Made;
 use crate::made::{Size, word_of};
+use crate::shifts::shifted_of;
 use crate::words::{kept_signed, kept_unsigned, signed, unsigned, wide_signed, wide_word};
 use numbers::{Kind, Operator, word16};
 
@@ -221,7 +222,7 @@ fn two_signed(op: Operator, left: &[u8], right: &[u8]) -> Option<Made>
 /// What an operator makes of two operands of one kind. There is none for a shift, where the operator panics, and for bytes that
 /// are no numbers of one type and no truth values.
 #[inline(always)]
-pub fn made_of(op: Operator, kind: Kind, left: &[u8], right: &[u8]) -> Option<Made>
+fn of_one_kind(op: Operator, kind: Kind, left: &[u8], right: &[u8]) -> Option<Made>
     ensures { IfSome result (λ made. computed op (Some kind) (Some kind) left.now right.now ≡ Computes (made_bytes made)) }
 {
     if left.len() != right.len() {
@@ -234,6 +235,25 @@ pub fn made_of(op: Operator, kind: Kind, left: &[u8], right: &[u8]) -> Option<Ma
         Kind::Boolean => {
             if left.len() == 1 {
                 on_booleans(op, left, right)
+            } else {
+                None
+            }
+        }
+    }
+}
+
+/// What an operator makes of two operands, of which `other` is the kind of the second. There is none where the operator panics, for
+/// bytes that are no numbers and no truth values, and for operands of two kinds unless the operator is a shift.
+#[inline(always)]
+pub fn made_of(op: Operator, kind: Kind, other: Kind, left: &[u8], right: &[u8]) -> Option<Made>
+    ensures { IfSome result (λ made. computed op (Some kind) (Some other) left.now right.now ≡ Computes (made_bytes made)) }
+{
+    match op {
+        Operator::Shl => shifted_of(op, kind, other, left, right),
+        Operator::Shr => shifted_of(op, kind, other, left, right),
+        _ => {
+            if kind == other {
+                of_one_kind(op, kind, left, right)
             } else {
                 None
             }
@@ -267,11 +287,20 @@ fn words_signed(op: Operator, left: &[u8], right: &[u8]) -> Option<Made>
     }
 }
 
-/// The same as `made_of` for operands of the frequent sizes alone, without a call: what it makes fits a register.
+/// The same as `made_of` for operands of one kind and of the frequent sizes alone, without a call: what it makes fits a register.
 #[inline(always)]
-pub fn word_made_of(op: Operator, kind: Kind, left: &[u8], right: &[u8]) -> Option<Made>
-    ensures { IfSome result (λ made. computed op (Some kind) (Some kind) left.now right.now ≡ Computes (made_bytes made)) }
+pub fn word_made_of(
+    op: Operator,
+    kind: Kind,
+    other: Kind,
+    left: &[u8],
+    right: &[u8],
+) -> Option<Made>
+    ensures { IfSome result (λ made. computed op (Some kind) (Some other) left.now right.now ≡ Computes (made_bytes made)) }
 {
+    if kind != other {
+        return None;
+    }
     if left.len() != right.len() {
         return None;
     }

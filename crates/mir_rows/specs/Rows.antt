@@ -2,13 +2,15 @@
 use Rattle.std.specs.Prelude.{◌≡◌, ℕ, Bool, true, false, List, [], ◌∷◌, take, Option, Some, None, slice_get, option_and_then}
 use Rattle.numbers.specs.Operators.{kind_of}
 use Rattle.numbers.specs.declared.operator.Kind.{Kind}
+use Rattle.types.specs.declared.ty.Ty.{Ty}
+use Rattle.world.specs.Checked.{fixed_size}
 use Rattle.mir.specs.declared.body.BasicBlock.{BasicBlock}
 use Rattle.mir.specs.declared.body.Terminator.{Terminator}
 use Rattle.mir.specs.declared.body.TerminatorKind.{TerminatorKind}
 use Rattle.mir.specs.declared.body.TerminatorKind.TheVariants as ends
 use Rattle.mir.specs.declared.operand.OperandKind.{OperandKind}
 use Rattle.mir.specs.declared.operand.OperandKind.TheVariants as operand
-use Rattle.mir.specs.declared.operand.Rvalue.TheVariants.{Use, CheckedBinaryOp}
+use Rattle.mir.specs.declared.operand.Rvalue.TheVariants.{Use, Cast, CheckedBinaryOp}
 use Rattle.mir.specs.declared.statement.Statement.{Statement}
 use Rattle.mir.specs.declared.statement.StatementKind.{StatementKind}
 use Rattle.mir.specs.declared.statement.StatementKind.TheVariants.{Assign, FakeRead, StorageLive, StorageDead}
@@ -47,16 +49,23 @@ IsSource code (source.Whole local) kind = LiesAt code (spot.Whole local) kind
 IsSource code (source.Constant short) kind = constant_in kind ≡ Some (short_bytes short)
 IsSource code (source.At spot) kind = LiesAt code spot kind
 
--- two sources are what two operands say, and the bytes of both are of a kind
-pub record AreOperands (code : Prepared) (kind : Kind) (first second : Source) (one other : OperandKind) : Type 0 where
+-- two sources are what two operands say, and the bytes of each are of a kind
+pub record AreOperands (code : Prepared) (kind other_kind : Kind) (first second : Source) (one other : OperandKind) : Type 0 where
   pub left : IsSource code first one
   pub right : IsSource code second other
   pub left_kind : option_and_then kind_of (operand_type code.world code.body one) ≡ Some kind
-  pub right_kind : option_and_then kind_of (operand_type code.world code.body other) ≡ Some kind
+  pub right_kind : option_and_then kind_of (operand_type code.world code.body other) ≡ Some other_kind
+
+-- a source is what an operand says that is cast to a type: its bytes are of a kind, and the type has a size
+pub record IsCast (code : Prepared) (kind : Kind) (size : ℕ) (from : Source) (one : OperandKind) (ty : Ty) : Type 0 where
+  pub source : IsSource code from one
+  pub own_kind : option_and_then kind_of (operand_type code.world code.body one) ≡ Some kind
+  pub own_size : fixed_size ty ≡ Some size
 
 -- an action is what a statement of a body does, by the layouts of a world
 abbrev pub Says : Prepared → Action → StatementKind → Type 0
-Says code (action.Combine op kind to left right) (Assign place (CheckedBinaryOp operator one other)) = IsSpot code place to × (operator ≡ op) × AreOperands code kind left right one.kind other.kind
+Says code (action.Combine op kind other_kind to left right) (Assign place (CheckedBinaryOp operator one other)) = IsSpot code place to × (operator ≡ op) × AreOperands code kind other_kind left right one.kind other.kind
+Says code (action.Cast kind size to from) (Assign place (Cast cast operand ty)) = IsSpot code place to × IsCast code kind size from operand.kind ty
 Says code (action.Copy to from) (Assign place (Use operand)) = IsSpot code place to × LiesAt code from operand.kind
 Says code (action.Put to value) (Assign place (Use operand)) = IsSpot code place to × IsSource code (source.Constant value) operand.kind
 Says code action.Other statement = Unit {0}

@@ -1,7 +1,8 @@
 //! The rows of a body's blocks, read off the body and the layouts of its world.
 
 ghost use Rattle.std.specs.Prelude.{◌≡◌, IfOk, IfSome};
-ghost use Rattle.mir.specs.declared.operand.Rvalue.TheVariants.{CheckedBinaryOp, Use};
+ghost use Rattle.mir.specs.declared.operand.Rvalue.TheVariants.{Cast, CheckedBinaryOp, Use};
+ghost use Rattle.mir.specs.declared.operand.CastKind.{CastKind};
 ghost use Rattle.mir.specs.declared.statement.StatementKind.TheVariants.{Assign};
 ghost use Rattle.mir.specs.declared.body.TerminatorKind.TheVariants.{SwitchInt};
 ghost use Rattle.mir_rows.specs.Rows.{is_idle, short_bytes, AreBlocks, AreRows, IsBlock, IsSource, IsWay, Leads, Says};
@@ -12,10 +13,10 @@ use crate::row::{Action, BlockRows, Row, Short, Source, Way};
 use crate::spots::{Spot, spot_of};
 use mir::{
     BasicBlock, BinOp, MirBody, Operand, OperandKind, Place, Rvalue, Statement, StatementKind,
-    SwitchTargets, Terminator, TerminatorKind,
+    SwitchTargets, Terminator, TerminatorKind, fixed_size,
 };
 use std::alloc::Global;
-use world::{HirDatabase, NoMemory};
+use world::{HirDatabase, NoMemory, Ty};
 
 /// Bytes with their number, where there are at most 16.
 fn short(bytes: &[u8]) -> Option<Short>
@@ -45,7 +46,8 @@ fn source(alloc: Global, db: &HirDatabase, body: &MirBody, operand: &OperandKind
     }
 }
 
-/// The assignment of what an operator makes of two operands, where the place has a spot, and the operands are of one kind and have sources.
+/// The assignment of what an operator makes of two operands, where the place has a spot, and the operands have sources, and are of one kind
+/// unless the operator is a shift.
 fn combine(
     alloc: Global,
     db: &HirDatabase,
@@ -59,17 +61,40 @@ fn combine(
 {
     let to = spot_of(alloc, db, body, to)?;
     let kind = operand_kind(db, body, &left.kind)?;
-    if operand_kind(db, body, &right.kind)? == kind {
-        Some(Action::Combine {
-            op,
-            kind,
-            to,
-            left: source(alloc, db, body, &left.kind)?,
-            right: source(alloc, db, body, &right.kind)?,
-        })
-    } else {
-        None
+    let other = operand_kind(db, body, &right.kind)?;
+    if kind != other && !matches!(op, BinOp::Shl | BinOp::Shr) {
+        return None;
     }
+    Some(Action::Combine {
+        op,
+        kind,
+        other,
+        to,
+        left: source(alloc, db, body, &left.kind)?,
+        right: source(alloc, db, body, &right.kind)?,
+    })
+}
+
+/// The assignment of an operand that is cast to a type, where the place has a spot, the operand a source, and the type a size.
+fn cast(
+    alloc: Global,
+    db: &HirDatabase,
+    body: &MirBody,
+    to: Place,
+    operand: &Operand,
+    ty: &Ty,
+) -> Option<Action>
+    ensures { IfSome result (λ action. (kind : CastKind) → Says (prepared db.now body.now) action (Assign to (Cast kind operand.now ty.now))) }
+{
+    let to = spot_of(alloc, db, body, to)?;
+    let kind = operand_kind(db, body, &operand.kind)?;
+    let size = fixed_size(ty)?;
+    Some(Action::Cast {
+        kind,
+        size,
+        to,
+        from: source(alloc, db, body, &operand.kind)?,
+    })
 }
 
 /// The assignment of an operand, where the place has a spot, and the operand has one too or is a constant of at most 16 bytes.
@@ -102,6 +127,9 @@ fn action(alloc: Global, db: &HirDatabase, body: &MirBody, statement: &Statement
     let found = match statement {
         StatementKind::Assign(to, Rvalue::CheckedBinaryOp(op, left, right)) => {
             combine(alloc, db, body, *to, *op, left, right)
+        }
+        StatementKind::Assign(to, Rvalue::Cast(_, operand, ty)) => {
+            cast(alloc, db, body, *to, operand, ty)
         }
         StatementKind::Assign(to, Rvalue::Use(operand)) => put(alloc, db, body, *to, operand),
         _ => None,

@@ -36,13 +36,21 @@ pub enum Source {
 /// What a statement does.
 #[derive(Drop)]
 pub enum Action {
-    /// It assigns to a spot what an operator makes of two operands of one kind.
+    /// It assigns to a spot what an operator makes of two operands. `kind` is what the bytes of the first are, and `other` what those of the second are.
     Combine {
         op: BinOp,
         kind: Kind,
+        other: Kind,
         to: Spot,
         left: Source,
         right: Source,
+    },
+    /// It assigns to a spot a number, a truth value or a character, cast to a type of so many bytes. `kind` is what its bytes are.
+    Cast {
+        kind: Kind,
+        size: usize,
+        to: Spot,
+        from: Source,
     },
     /// It copies the value at a spot to another one.
     Copy {

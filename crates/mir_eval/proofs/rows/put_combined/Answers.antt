@@ -6,4 +6,4 @@ use Rattle.mir_eval.proofs.rows.put_combined.Goals as goal
 pub returns-clause-done : goal.returns-clause-done
 returns-clause-done g c =
     does-combine (frame_of c.args.frame) (g.M.Memory.areas c.args.memory.now) _ c.args.to.now c.in_ok-to.to c.in_ok-to.ensures
-    _ c.args.op c.args.kind c.args.left.now c.args.right.now c.in_ok-made.made refl c.in_ok-made.ensures c.assign_made.ensures
+    _ c.args.op c.args.kind c.args.other c.args.left.now c.args.right.now c.in_ok-made.made refl c.in_ok-made.ensures c.assign_made.ensures
