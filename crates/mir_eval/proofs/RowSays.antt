@@ -171,7 +171,7 @@ module _ (frame : Frame) (memory : Memory) where
     pub does-combine : (given : Action) (op : Operator) (kind other_kind : Kind) (left right : Source) (m : Made) → given ≡ action.Combine op kind other_kind to left right →
         ((one other : OperandKind) → AreOperands (code_in frame) kind other_kind left right one other → Makes frame memory op one other (made_bytes m)) → out ≡ copied memory (Some cell) (Ok (made_bytes m)) →
         (statement : StatementKind) → Says (code_in frame) given statement → out ≡ after_statement frame memory statement
-    does-combine given op kind left right m same makes is statement says =
+    does-combine given op kind other_kind left right m same makes is statement says =
         combines op kind other_kind left right m makes is statement (subst (λ (a : Action). Says (code_in frame) a statement) same says)
 
     -- or what a cast makes
