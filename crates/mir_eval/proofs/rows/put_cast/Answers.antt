@@ -7,7 +7,7 @@ pub returns-clause-done : goal.returns-clause-done
 returns-clause-done g c =
     let frame = frame_of c.args.frame in
     let memory = g.M.Memory.areas c.args.memory.now in
-    let made = c.in_ok-converted_of.field-0 in
+    let made = c.in_ok-made.made in
     does-cast frame memory _ c.args.to.now c.in_ok-to.to c.in_ok-to.ensures _ c.args.kind c.args.size c.args.from.now made refl
-    (converted-source frame memory c.args.kind c.args.size c.args.from.now (Some made) c.in_ok-view.view c.in_ok-bytes.bytes.now c.in_ok-bytes.ensures c.in_ok-view.ensures c.in_ok-converted_of.ensures)
+    (converted-source frame memory c.args.kind c.args.size c.args.from.now (Some made) c.in_ok-view.view c.in_ok-bytes.bytes.now c.in_ok-bytes.ensures c.in_ok-view.ensures c.in_ok-made.ensures)
     c.assign_made.ensures
