@@ -4,7 +4,7 @@ use Rattle.std.proofs.lemmas.Bool.{cases_lt}
 use Rattle.std.proofs.lemmas.Option.{none-some}
 use Rattle.std.specs.BTreeMap.{is_at}
 use Rattle.std.specs.List.{find, position, position_or_len}
-use Rattle.std.specs.Option.{option_map}
+use Rattle.std.specs.Option.{option_and_then, option_map}
 use Rattle.std.specs.Prelude.{not}
 use Rattle.types.specs.Orders.{ty_cmp}
 use Rattle.types.specs.Places.{place_at, row_at}
@@ -12,7 +12,7 @@ use Rattle.types.specs.declared.ty.Ty.{Ty}
 use Rattle.world.specs.declared.database.HirDatabase.{HirDatabase}
 use Rattle.world.specs.declared.layout.Layout.{Layout}
 use Rattle.types.proofs.Places.{found_at, no_position}
-use Rattle.check_layouts.specs.inner.Fields.{IsPlaceOf, field_layout}
+use Rattle.check_layouts.specs.inner.Fields.{IsPlaceOf}
 use Rattle.check_layouts.specs.Sizes.{layout_above}
 
 module _ {R : Type 0} (test : R → Bool) where
@@ -81,6 +81,9 @@ module _ (world : HirDatabase) (i : ℕ) (ty : Ty) where
   -- no row is of the type
   layout_nowhere : place_is None → None ≡ layout_above world i ty
   layout_nowhere is = sym (ap (option_map (λ (found : Ty × Layout). found.1)) (find_nowhere has_type world.layouts i is))
+
+abbrev pub field_layout : HirDatabase → ℕ → Option Ty → Option Layout
+field_layout world i found = option_and_then (layout_above world i) found
 
 -- the same of a type that there may be
 module _ (world : HirDatabase) (i : ℕ) where

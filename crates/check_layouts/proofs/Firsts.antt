@@ -2,6 +2,7 @@
 use Rattle.std.proofs.Common.{◌≡◌, ℕ, zero, suc, ◌+◌, ◌<◌, ◌≤◌, Bool, true, false, cond, true≢false, ◌⊎◌, inl, inr, Option, Some, None, List, [], ◌∷◌, slice_get, IfSome, Decides, refl, sym, ◌∙◌, ap, arith}
 use Rattle.std.proofs.lemmas.Bool.{cases_lt}
 use Rattle.world.specs.Failing.{first_failing}
+use Rattle.check_layouts.proofs.Deciding.{of_there, there}
 
 -- an answer names the first place that lacks a property, or says that none does
 pub record IsFirst (fact : ℕ → Type 0) (found : Option ℕ) : Type 0 where
@@ -74,14 +75,6 @@ passes test k zero (y ∷ xs) x e at =
 passes test k (suc i) (y ∷ xs) x e at =
     let step : k + suc i ≡ k + 1 + i = omega arith in
     ap (λ j. test j x) step ∙ passes test (k + 1) i xs x (skipped (test k y) k (first_failing test (k + 1) xs) e).1 at
-
-there : {X : Type 0} (fact : X → Type 0) (found : Option X) → ((x : X) → found ≡ Some x → fact x) → IfSome found fact
-there fact None h = tt
-there fact (Some x) h = h x refl
-
-of_there : {X : Type 0} (fact : X → Type 0) (found : Option X) (x : X) → found ≡ Some x → IfSome found fact → fact x
-of_there fact None x at h = cc
-of_there fact (Some y) x at h = let same : y ≡ x = cc in rw (sym same) h
 
 module _ {X : Type 0} (test : ℕ → X → Bool) (fact : ℕ → X → Type 0) (decides : (i : ℕ) (x : X) → Decides (test i x) (fact i x)) (xs : List X) where
   abbrev holds : ℕ → Type 0

@@ -2,10 +2,14 @@ pub mod Above
 pub mod Failing
 pub mod Fixed
 pub mod Found
-pub mod Inside
 pub mod Kept
-pub mod Placing
 pub mod Listed
 pub mod Firsts
-pub mod Passed
 pub mod Decided
+pub mod Deciding
+pub mod Sizing
+pub mod Forms
+pub mod Elements
+pub mod Tagged
+pub mod Placed
+pub mod Laying

@@ -1,6 +1,3 @@
--- What the functions inside the crate answer, which no contract of a public one cites.
-pub mod Sizes
+-- What the functions inside the crate find, which no contract of a public one cites.
 pub mod Fields
-pub mod Layouts
-pub mod Tags
 pub mod Places

@@ -1,9 +1,10 @@
 //! The fields of a type, at its arguments, inside the type's layout.
-ghost use Rattle.std.specs.Prelude.{◌≡◌, IfOk, OnOk, map, Option, Some, slice_get};
+ghost use Rattle.std.specs.Prelude.{◌≡◌, ℕ, ◌+◌, ◌≤◌, IfOk, IfSome, OnOk, Option, Some, slice_get, Decides};
 ghost use Rattle.check_instances.specs.Instances.{ty_instance};
 ghost use Rattle.types.specs.declared.ty.Ty.{Ty};
-ghost use Rattle.check_layouts.specs.Laid.{variants_of};
-ghost use Rattle.check_layouts.specs.inner.Fields.{AreSizesRight, IsPlaceOf, are_inside, captures_at, field_size, is_part_inside, is_placed_right, types_at};
+ghost use Rattle.check_layouts.specs.Laid.{AreCaptured, AreInside, field_type, variants_of};
+ghost use Rattle.check_layouts.specs.Sizes.{layout_above};
+ghost use Rattle.check_layouts.specs.inner.Fields.{ArePartsInside, AreSizesRight, IsPartInside, IsPlaceOf, field_size};
 ghost use Rattle.check_layouts.specs.inner.Places.{capture_places, field_places, fixed_place, fixed_places};
 
 use crate::places::{FixedPlace, FixedPlaces, place_of_index, places_of_captures};
@@ -17,7 +18,7 @@ use world::{
 
 /// Whether a part has a size and, if it has an offset, ends within `size`.
 fn is_part_inside(size: u64, offset: Option<u64>, part: Option<u64>) -> bool
-    ensures { result ≡ is_part_inside size offset part }
+    ensures { Decides result ((n : ℕ) × (part ≡ Some n) × IfSome offset (λ start. start + n ≤ size)) }
 {
     match part {
         Some(part) => match offset {
@@ -40,7 +41,7 @@ fn size_above(db: &HirDatabase, i: u64, ty: &Ty) -> Option<u64>
 
 /// Whether a type has a layout in one of the first `i` rows and, if it has an offset, ends within `size`.
 fn is_type_inside(db: &HirDatabase, i: u64, size: u64, offset: Option<u64>, ty: &Ty) -> bool
-    ensures { result ≡ is_part_inside size offset (field_size db.now i (Some ty.now)) }
+    ensures { Decides result (IsPartInside (layout_above db.now i) size offset (Some ty.now)) }
 {
     is_part_inside(size, offset, size_above(db, i, ty))
 }
@@ -125,7 +126,7 @@ fn are_types_inside(
     offsets: &List<u64>,
     types: &List<Ty>,
 ) -> bool
-    ensures { result ≡ are_inside db.now i size offsets.now (map Some types.now) }
+    ensures { Decides result (ArePartsInside (layout_above db.now i) size offsets.now Some types.now) }
 {
     let items = types.as_slice();
     for (k, ty) in items.iter().enumerate() {
@@ -152,7 +153,7 @@ pub(crate) fn are_fields_inside(
 ) -> Result<bool, NoMemory>
     requires sizes { AreSizesRight db.now i args.now sizes.old }
     requires places { places.now ≡ field_places db.now fields.now }
-    ensures inside { IfOk result (λ inside. inside ≡ are_inside db.now i size offsets.now (types_at db.now args.now fields.now)) }
+    ensures inside { IfOk result (λ inside. Decides inside (ArePartsInside (layout_above db.now i) size offsets.now (field_type db.now args.now) fields.now)) }
     ensures sizes { OnOk result (AreSizesRight db.now i args.now sizes.new) }
 {
     let items = fields.as_slice();
@@ -180,7 +181,7 @@ fn are_captures_inside(
     captures: &List<Capture>,
 ) -> Result<bool, NoMemory>
     requires { places.now ≡ capture_places db.now captures.now }
-    ensures { IfOk result (λ inside. inside ≡ are_inside db.now i size offsets.now (map (λ capture. ty_instance db.now.normals args.now capture.ty) captures.now)) }
+    ensures { IfOk result (λ inside. Decides inside (AreCaptured db.now (layout_above db.now i) size offsets.now args.now captures.now)) }
 {
     let mut sizes = Map::new(alloc);
     let items = captures.as_slice();
@@ -207,7 +208,7 @@ pub(crate) fn is_closure_inside(
     id: InternedClosureId,
 ) -> Result<bool, NoMemory>
     requires { places.now ≡ fixed_places db.now }
-    ensures { IfOk result (λ inside. inside ≡ are_inside db.now i size offsets.now (captures_at db.now args.now (slice_get db.now.closures id.0))) }
+    ensures { IfOk result (λ inside. Decides inside (IfSome (slice_get db.now.closures id.0) (λ row. AreCaptured db.now (layout_above db.now i) size offsets.now args.now row.captures))) }
 {
     match db.closures.get(id.0 as u64) {
         Some(row) => {
@@ -226,7 +227,7 @@ pub(crate) fn is_tuple_placed(
     offsets: &List<u64>,
     parts: &List<Ty>,
 ) -> bool
-    ensures { result ≡ is_placed_right db.now i size (record { offsets = offsets.now; types = map Some parts.now }) }
+    ensures { Decides result (AreInside (layout_above db.now i) size offsets.now Some parts.now) }
 {
     offsets.len() == parts.len() && are_types_inside(db, i, size, offsets, parts)
 }
@@ -245,7 +246,7 @@ pub(crate) fn are_fields_placed(
 ) -> Result<bool, NoMemory>
     requires sizes { AreSizesRight db.now i args.now sizes.old }
     requires places { places.now ≡ field_places db.now fields.now }
-    ensures right { IfOk result (λ right. right ≡ is_placed_right db.now i size (record { offsets = offsets.now; types = types_at db.now args.now fields.now })) }
+    ensures right { IfOk result (λ right. Decides right (AreInside (layout_above db.now i) size offsets.now (field_type db.now args.now) fields.now)) }
     ensures sizes { OnOk result (AreSizesRight db.now i args.now sizes.new) }
 {
     if offsets.len() != fields.len() {

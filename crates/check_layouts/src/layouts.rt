@@ -1,12 +1,20 @@
 //! Layouts that follow the rules of all targets.
-ghost use Rattle.std.specs.Prelude.{◌≡◌, ℕ, ◌<◌, [], None, IfOk, IfSome, OnOk};
-ghost use Rattle.check_layouts.specs.Laid.{IsRowLaidOut};
-ghost use Rattle.std.specs.List.{list_all};
-ghost use Rattle.std.specs.Option.{option_and_then, option_copied};
-ghost use Rattle.world.specs.Failing.{first_failing};
-ghost use Rattle.world.specs.Lookups.{fields_of};
-ghost use Rattle.check_layouts.specs.inner.Fields.{AreSizesRight, fields_of_variant, is_placed_inside, is_placed_right, placed_captures, placed_fields, placed_of, placed_of_each, placed_of_enum, unplaced_fields, unplaced_of_each};
-ghost use Rattle.check_layouts.specs.inner.Layouts.{are_parts_right, is_layout_right, is_size_right, is_tag_inside, is_tag_size};
+ghost use Rattle.std.specs.Prelude.{◌≡◌, ℕ, ◌*◌, ◌<◌, List, [], ◌∷◌, None, Some, IfOk, IfSome, OnOk, Decides, slice_get};
+ghost use Rattle.std.specs.Option.{option_copied};
+ghost use Rattle.types.specs.declared.ids.AdtId.TheVariants as adt;
+ghost use Rattle.types.specs.declared.ids.EnumId.{EnumId};
+ghost use Rattle.types.specs.declared.ids.InternedClosureId.{InternedClosureId};
+ghost use Rattle.types.specs.declared.ids.VariantId.TheVariants as item;
+ghost use Rattle.types.specs.declared.ty.GenericArgs.{GenericArgs};
+ghost use Rattle.types.specs.declared.ty.Ty.TheVariants.{Adt, Closure};
+ghost use Rattle.world.specs.Checked.{IsAlignment};
+ghost use Rattle.world.specs.declared.closures.ClosureRow.{ClosureRow};
+ghost use Rattle.world.specs.declared.items.FieldRow.{FieldRow};
+ghost use Rattle.world.specs.declared.layout.MultiLayout.{MultiLayout};
+ghost use Rattle.world.specs.declared.layout.Variants.TheVariants.{Multiple};
+ghost use Rattle.check_layouts.specs.Laid.{AreCaptured, Has, HasLayout, IsLaidOut, IsRowLaidOut, IsTagInside, field_type, variant_fields};
+ghost use Rattle.check_layouts.specs.Sizes.{known_size, layout_above};
+ghost use Rattle.check_layouts.specs.inner.Fields.{AreFieldsInside, AreSizesRight, AreVariantsInside, IsItemInside, IsItemKnown};
 ghost use Rattle.check_layouts.specs.inner.Places.{fixed_places};
 
 use crate::arrays::is_array_size;
@@ -24,14 +32,14 @@ use world::{
 
 /// Whether a tag has the size of an integer.
 fn is_tag_size(size: u64) -> bool
-    ensures { result ≡ is_tag_size size }
+    ensures { Decides result (Has (1 ∷ 2 ∷ 4 ∷ 8 ∷ 16 ∷ []) size) }
 {
     size == 1 || size == 2 || size == 4 || size == 8 || size == 16
 }
 
 /// Whether a tag, if there is one, has the size of an integer and ends within `size`.
 fn is_tag_inside(size: u64, variants: &Variants) -> bool
-    ensures { result ≡ is_tag_inside size variants.now }
+    ensures { Decides result ((multiple : MultiLayout) → variants.now ≡ Multiple multiple → IsTagInside size multiple) }
 {
     match variants {
         Variants::Multiple(multiple) => {
@@ -46,7 +54,7 @@ fn is_tag_inside(size: u64, variants: &Variants) -> bool
 /// Whether the alignment is a power of two, and the size a multiple of it and, if all targets give the type
 /// one size, that one.
 fn is_size_right(db: &HirDatabase, ty: &Ty, layout: &Layout) -> bool
-    ensures { result ≡ is_size_right db.now ty.now layout.now }
+    ensures { Decides result (IsAlignment layout.now.align × ((n : ℕ) × (layout.now.size ≡ n * layout.now.align)) × IfSome (known_size db.now ty.now) (λ known. layout.now.size ≡ known)) }
 {
     is_alignment(layout.align)
         && is_multiple_of(layout.size, layout.align)
@@ -68,7 +76,7 @@ fn are_item_fields_placed(
 ) -> Result<bool, NoMemory>
     requires sizes { AreSizesRight db.now i args.now sizes.old }
     requires places { places.now ≡ fixed_places db.now }
-    ensures right { IfOk result (λ right. right ≡ list_all (is_placed_right db.now i size) (placed_of db.now args.now offsets.now (fields_of db.now v))) }
+    ensures right { IfOk result (λ right. Decides right (IsItemInside db.now (layout_above db.now i) size args.now offsets.now v)) }
     ensures sizes { OnOk result (AreSizesRight db.now i args.now sizes.new) }
 {
     match db.field_types(v) {
@@ -92,7 +100,7 @@ fn are_only_fields_placed(
     v: VariantId,
 ) -> Result<bool, NoMemory>
     requires { places.now ≡ fixed_places db.now }
-    ensures { IfOk result (λ right. right ≡ list_all (is_placed_right db.now i size) (placed_of db.now args.now offsets.now (fields_of db.now v))) }
+    ensures { IfOk result (λ right. Decides right (IsItemInside db.now (layout_above db.now i) size args.now offsets.now v)) }
 {
     let mut sizes = Map::new(alloc);
     are_item_fields_placed(alloc, db, places, i, size, args, &mut sizes, offsets, v)
@@ -111,7 +119,7 @@ fn are_variants_placed(
     ids: &[EnumVariantId],
 ) -> Result<bool, NoMemory>
     requires { places.now ≡ fixed_places db.now }
-    ensures { IfOk result (λ right. right ≡ list_all (is_placed_right db.now i size) (placed_of_each db.now args.now lists.now ids.now)) }
+    ensures { IfOk result (λ right. Decides right ((k : ℕ) → IfSome (slice_get lists.now k) (λ offsets. IfSome (slice_get ids.now k) (λ id. IsItemInside db.now (layout_above db.now i) size args.now offsets (item.EnumVariantId id))))) }
 {
     let mut sizes = Map::new(alloc);
     let items = lists.as_slice();
@@ -140,7 +148,7 @@ fn is_variant_placed(
     variant: Option<&EnumVariantId>,
 ) -> Result<bool, NoMemory>
     requires { places.now ≡ fixed_places db.now }
-    ensures { IfOk result (λ right. right ≡ list_all (is_placed_right db.now i size) (placed_of db.now args.now offsets.now (option_and_then (fields_of_variant db.now) (option_copied variant.entry)))) }
+    ensures { IfOk result (λ right. Decides right (IfSome (option_copied variant.entry) (λ id. IsItemInside db.now (layout_above db.now i) size args.now offsets.now (item.EnumVariantId id)))) }
 {
     match variant {
         Some(v) => {
@@ -163,7 +171,7 @@ fn is_enum_placed(
     layout: &Layout,
 ) -> Result<bool, NoMemory>
     requires { places.now ≡ fixed_places db.now }
-    ensures { IfOk result (λ right. right ≡ list_all (is_placed_right db.now i layout.now.size) (placed_of_enum db.now id.0 args.now layout.now.offsets layout.now.variants)) }
+    ensures { IfOk result (λ right. Decides right (AreVariantsInside db.now (layout_above db.now i) (adt.EnumId id) args.now layout.now)) }
 {
     let size = layout.size;
     let ids = enum_variants(db, id);
@@ -190,7 +198,7 @@ fn are_type_fields_placed(
     layout: &Layout,
 ) -> Result<bool, NoMemory>
     requires { places.now ≡ fixed_places db.now }
-    ensures { IfOk result (λ right. right ≡ list_all (is_placed_right db.now i layout.now.size) (placed_fields db.now ty.now layout.now)) }
+    ensures { IfOk result (λ right. Decides right (AreFieldsInside db.now (layout_above db.now i) ty.now layout.now)) }
 {
     let size = layout.size;
     let offsets = &layout.offsets;
@@ -224,7 +232,7 @@ fn are_variant_fields_known(
 ) -> Result<bool, NoMemory>
     requires sizes { AreSizesRight db.now i args.now sizes.old }
     requires places { places.now ≡ fixed_places db.now }
-    ensures known { IfOk result (λ known. known ≡ list_all (is_placed_inside db.now i size) (placed_of db.now args.now [] (fields_of_variant db.now id))) }
+    ensures known { IfOk result (λ known. Decides known (IsItemKnown db.now (layout_above db.now i) args.now (item.EnumVariantId id))) }
     ensures sizes { OnOk result (AreSizesRight db.now i args.now sizes.new) }
 {
     let nowhere = List::new(alloc);
@@ -249,7 +257,7 @@ fn are_variants_known(
     ids: &[EnumVariantId],
 ) -> Result<bool, NoMemory>
     requires { places.now ≡ fixed_places db.now }
-    ensures { IfOk result (λ known. known ≡ list_all (is_placed_inside db.now i size) (unplaced_of_each db.now args.now ids.now)) }
+    ensures { IfOk result (λ known. Decides known ((v : ℕ) → IfSome (slice_get ids.now v) (λ id. IsItemKnown db.now (layout_above db.now i) args.now (item.EnumVariantId id)))) }
 {
     let mut sizes = Map::new(alloc);
     for id in ids {
@@ -271,7 +279,7 @@ fn are_enum_fields_known(
     ty: &Ty,
 ) -> Result<bool, NoMemory>
     requires { places.now ≡ fixed_places db.now }
-    ensures { IfOk result (λ known. known ≡ list_all (is_placed_inside db.now i size) (unplaced_fields db.now ty.now)) }
+    ensures { IfOk result (λ known. Decides known ((id : EnumId) (args : GenericArgs) (v k : ℕ) (rows : List FieldRow) (field : FieldRow) → ty.now ≡ Adt (adt.EnumId id) args → variant_fields db.now (adt.EnumId id) v ≡ Some rows → slice_get rows k ≡ Some field → HasLayout (layout_above db.now i) (field_type db.now args field))) }
 {
     match ty {
         Ty::Adt(AdtId::EnumId(id), args) => {
@@ -291,7 +299,7 @@ fn are_captures_placed(
     layout: &Layout,
 ) -> Result<bool, NoMemory>
     requires { places.now ≡ fixed_places db.now }
-    ensures { IfOk result (λ inside. inside ≡ list_all (is_placed_inside db.now i layout.now.size) (placed_captures db.now ty.now layout.now)) }
+    ensures { IfOk result (λ inside. Decides inside ((id : InternedClosureId) (args : GenericArgs) (row : ClosureRow) → ty.now ≡ Closure id args → slice_get db.now.closures id.0 ≡ Some row → AreCaptured db.now (layout_above db.now i) layout.now.size layout.now.offsets args row.captures)) }
 {
     match ty {
         Ty::Closure(id, args) => {
@@ -310,19 +318,23 @@ fn are_captures_placed(
     }
 }
 
-/// Whether fields, captures, elements and the tag end within the layout.
-#[tactic(auto, using(crate::proofs::Placing::fields_pass, crate::proofs::Placing::fields_fail))]
-fn are_parts_right(
+/// Whether the layout in row `i` of `layouts` follows the rules of all targets. It fails only for want of
+/// memory.
+fn is_layout_right(
     alloc: Global,
     db: &HirDatabase,
     places: &FixedPlaces,
     i: u64,
-    ty: &Ty,
-    layout: &Layout,
+    row: &(Ty, Layout),
 ) -> Result<bool, NoMemory>
     requires { places.now ≡ fixed_places db.now }
-    ensures { IfOk result (λ right. right ≡ are_parts_right db.now i ty.now layout.now) }
+    ensures { IfOk result (λ right. Decides right (IsLaidOut db.now (layout_above db.now i) row.now.0 row.now.1)) }
 {
+    let ty = &row.0;
+    let layout = &row.1;
+    if !is_ty_closed(ty) || !is_size_right(db, ty, layout) {
+        return Ok(false);
+    }
     if !are_type_fields_placed(alloc, db, places, i, ty, layout)? {
         return Ok(false);
     }
@@ -335,27 +347,12 @@ fn are_parts_right(
     Ok(is_array_size(db, i, ty, layout.size) && is_tag_inside(layout.size, &layout.variants))
 }
 
-/// Whether the layout in row `i` of `layouts` follows the rules of all targets. It fails only for want of
-/// memory.
-fn is_layout_right(
-    alloc: Global,
-    db: &HirDatabase,
-    places: &FixedPlaces,
-    i: u64,
-    row: &(Ty, Layout),
-) -> Result<bool, NoMemory>
-    requires { places.now ≡ fixed_places db.now }
-    ensures { IfOk result (λ right. right ≡ is_layout_right db.now i row.now) }
-{
-    if !is_ty_closed(&row.0) || !is_size_right(db, &row.0, &row.1) {
-        return Ok(false);
-    }
-    are_parts_right(alloc, db, places, i, &row.0, &row.1)
-}
-
-/// The index of the first layout that fails the test of its row.
-fn first_failing_layout(alloc: Global, db: &HirDatabase) -> Result<Option<usize>, NoMemory>
-    ensures { IfOk result (λ found. found ≡ first_failing (is_layout_right db.now) 0 db.now.layouts) }
+/// The index of the first row of `layouts` that breaks a rule of all targets, or none where each row keeps
+/// them. It fails only for want of memory.
+pub fn first_wrong_layout(alloc: Global, db: &HirDatabase) -> Result<Option<usize>, NoMemory>
+    ensures none { IfOk result (λ found. found ≡ None → (i : ℕ) → IsRowLaidOut db.now i) }
+    ensures wrong { IfOk result (λ found. IfSome found (λ i. IsRowLaidOut db.now i → ⊥)) }
+    ensures first { IfOk result (λ found. IfSome found (λ i. (j : ℕ) → j < i → IsRowLaidOut db.now j)) }
 {
     let places = fixed_places(alloc, db)?;
     let rows = db.layouts.as_slice();
@@ -366,14 +363,4 @@ fn first_failing_layout(alloc: Global, db: &HirDatabase) -> Result<Option<usize>
         }
     }
     Ok(None)
-}
-
-/// The index of the first row of `layouts` that breaks a rule of all targets, or none where each row keeps
-/// them. It fails only for want of memory.
-pub fn first_wrong_layout(alloc: Global, db: &HirDatabase) -> Result<Option<usize>, NoMemory>
-    ensures none { IfOk result (λ found. found ≡ None → (i : ℕ) → IsRowLaidOut db.now i) }
-    ensures wrong { IfOk result (λ found. IfSome found (λ i. IsRowLaidOut db.now i → ⊥)) }
-    ensures first { IfOk result (λ found. IfSome found (λ i. (j : ℕ) → j < i → IsRowLaidOut db.now j)) }
-{
-    first_failing_layout(alloc, db)
 }

@@ -1,17 +1,16 @@
 //! Sizes and alignments that are the same on all targets, and the layouts in earlier rows of the table.
-ghost use Rattle.std.specs.Prelude.{◌≡◌, ◌<◌, Option};
-ghost use Rattle.std.specs.Option.{option_copied};
-ghost use Rattle.check_layouts.specs.inner.Fields.{IsPlaceOf, field_layout};
+ghost use Rattle.std.specs.Prelude.{◌≡◌, ℕ, ◌*◌, ◌<◌, Option, IfSome, Decides};
+ghost use Rattle.std.specs.Option.{option_and_then, option_copied};
+ghost use Rattle.check_layouts.specs.inner.Fields.{IsPlaceOf};
 ghost use Rattle.check_layouts.specs.Sizes.{is_unsized, is_wide, known_size, layout_above, pointer_size};
-ghost use Rattle.check_layouts.specs.inner.Sizes.{is_alignment, is_fixed_size, is_multiple_of};
 ghost use Rattle.types.specs.declared.ty.Ty.{Ty};
-ghost use Rattle.world.specs.Checked.{int_bytes, uint_bytes};
+ghost use Rattle.world.specs.Checked.{IsAlignment, int_bytes, uint_bytes};
 
 use world::{AdtId, HirDatabase, IntTy, Layout, Ty, UintTy};
 
 /// Whether an alignment is a power of two up to 8192.
 pub(crate) fn is_alignment(align: u64) -> bool
-    ensures { result ≡ is_alignment align }
+    ensures { Decides result (IsAlignment align) }
 {
     let alignments = [
         1, 2, 4, 8, 16, 32, 64, 128, 256, 512, 1024, 2048, 4096, 8192,
@@ -22,7 +21,7 @@ pub(crate) fn is_alignment(align: u64) -> bool
 /// Whether a size is a multiple of an alignment.
 pub(crate) fn is_multiple_of(size: u64, align: u64) -> bool
     requires { 0 < align }
-    ensures { result ≡ is_multiple_of size align }
+    ensures { Decides result ((n : ℕ) × (size ≡ n * align)) }
 {
     size % align == 0
 }
@@ -105,7 +104,7 @@ pub(crate) fn known_size(db: &HirDatabase, ty: &Ty) -> Option<u64>
 
 /// Whether a size is the known one, if there is a known one.
 pub(crate) fn is_fixed_size(known: Option<u64>, size: u64) -> bool
-    ensures { result ≡ is_fixed_size known size }
+    ensures { Decides result (IfSome known (λ fixed. size ≡ fixed)) }
 {
     match known {
         Some(fixed) => size == fixed,
@@ -115,7 +114,7 @@ pub(crate) fn is_fixed_size(known: Option<u64>, size: u64) -> bool
 
 /// The layout of a type, by the index of its row, if that is one of the first `i` rows.
 pub(crate) fn layout_at<'a>(db: &'a HirDatabase, i: u64, place: Option<u64>) -> Option<&'a Layout>
-    ensures { (found : Option Ty) → IsPlaceOf db.now found place → option_copied result ≡ field_layout db.now i found }
+    ensures { (found : Option Ty) → IsPlaceOf db.now found place → option_copied result ≡ option_and_then (layout_above db.now i) found }
 {
     match place {
         Some(place) => {

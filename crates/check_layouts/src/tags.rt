@@ -1,7 +1,8 @@
 //! Tags that fit their enums.
-ghost use Rattle.std.specs.Prelude.{◌≡◌, ◌+◌, ◌<◌, length, nat_le, Decides};
-ghost use Rattle.check_layouts.specs.Laid.{HasRightTag};
-ghost use Rattle.check_layouts.specs.inner.Tags.{is_enum_tag_right, is_multiple_right, is_niche_right, is_tag_right, is_untagged, tag_values};
+ghost use Rattle.std.specs.Prelude.{◌≡◌, ℕ, ◌+◌, ◌*◌, ◌^◌, ◌<◌, ◌≤◌, length, Decides};
+ghost use Rattle.check_layouts.specs.Laid.{HasRightTag, IsNiche, IsTag};
+ghost use Rattle.world.specs.declared.layout.MultiLayout.{MultiLayout};
+ghost use Rattle.world.specs.declared.layout.Variants.TheVariants.{Single, Multiple};
 
 use crate::fields::enum_variants;
 use world::{AdtId, HirDatabase, Layout, MultiLayout, TagEncoding, Ty, Variants};
@@ -9,21 +10,21 @@ use world::{AdtId, HirDatabase, Layout, MultiLayout, TagEncoding, Ty, Variants};
 /// How many values a tag of less than 16 bytes has.
 fn tag_values(size: u64) -> u128
     requires { size < 16 }
-    ensures { result ≡ tag_values size }
+    ensures { result ≡ 2 ^ (8 * size) }
 {
     1 << (8 * size)
 }
 
 /// Whether a tag of 16 bytes has at least `start + more` values; the sum may be 2^128.
 fn is_widest(start: u128, more: u64) -> bool
-    ensures { result ≡ nat_le (start + more) (tag_values 16) }
+    ensures { Decides result (start + more ≤ 2 ^ 128) }
 {
     more == 0 || start <= u128::MAX - (more as u128 - 1)
 }
 
 /// Whether a tag of `size` bytes has at least `start + more` values.
 fn is_within_tag(start: u128, more: u64, size: u64) -> bool
-    ensures { result ≡ nat_le (start + more) (tag_values size) }
+    ensures { Decides result (start + more ≤ 2 ^ (8 * size)) }
 {
     if size > 16 {
         return true;
@@ -38,7 +39,7 @@ fn is_within_tag(start: u128, more: u64, size: u64) -> bool
 /// Whether the untagged variant of a niche is one of the enum, and the tag has a value for each other
 /// variant from the start of the niche on.
 fn is_niche_right(count: u64, size: u64, encoding: TagEncoding) -> bool
-    ensures { result ≡ is_niche_right count size encoding }
+    ensures { Decides result (IsNiche count size encoding) }
 {
     match encoding {
         TagEncoding::Direct => true,
@@ -52,7 +53,7 @@ fn is_niche_right(count: u64, size: u64, encoding: TagEncoding) -> bool
 
 /// Whether there are as many variants as in the enum, and the tag has a value for each.
 fn is_multiple_right(count: u64, multiple: &MultiLayout) -> bool
-    ensures { result ≡ is_multiple_right count multiple.now }
+    ensures { Decides result (IsTag count multiple.now) }
 {
     multiple.variants.len() == count
         && is_within_tag(0, count, multiple.tag_size)
@@ -61,7 +62,7 @@ fn is_multiple_right(count: u64, multiple: &MultiLayout) -> bool
 
 /// Whether the tag of a layout fits an enum of `count` variants.
 fn is_enum_tag_right(count: u64, variants: &Variants) -> bool
-    ensures { result ≡ is_enum_tag_right count variants.now }
+    ensures { Decides result (((multiple : MultiLayout) → variants.now ≡ Multiple multiple → IsTag count multiple) × ((i : ℕ) → variants.now ≡ Single i → i < count)) }
 {
     match variants {
         Variants::Empty => true,
@@ -72,7 +73,7 @@ fn is_enum_tag_right(count: u64, variants: &Variants) -> bool
 
 /// Whether a layout has no tag.
 fn is_untagged(variants: &Variants) -> bool
-    ensures { result ≡ is_untagged variants.now }
+    ensures { Decides result ((multiple : MultiLayout) → variants.now ≡ Multiple multiple → ⊥) }
 {
     match variants {
         Variants::Multiple(_) => false,
@@ -80,9 +81,9 @@ fn is_untagged(variants: &Variants) -> bool
     }
 }
 
-/// Whether the tag of a layout fits its enum; the layout of any other type has no tag.
-fn fits_type(db: &HirDatabase, row: &(Ty, Layout)) -> bool
-    ensures { result ≡ is_tag_right db.now row.now }
+/// Whether the tag of a row of `layouts` fits its enum; the layout of any other type has no tag.
+pub fn is_tag_right(db: &HirDatabase, row: &(Ty, Layout)) -> bool
+    ensures { Decides result (HasRightTag db.now row.now.0 row.now.1) }
 {
     match &row.0 {
         Ty::Adt(AdtId::EnumId(id), _) => {
@@ -90,11 +91,4 @@ fn fits_type(db: &HirDatabase, row: &(Ty, Layout)) -> bool
         }
         _ => is_untagged(&row.1.variants),
     }
-}
-
-/// Whether the tag of a row of `layouts` fits its enum; the layout of any other type has no tag.
-pub fn is_tag_right(db: &HirDatabase, row: &(Ty, Layout)) -> bool
-    ensures { Decides result (HasRightTag db.now row.now.0 row.now.1) }
-{
-    fits_type(db, row)
 }

@@ -7,9 +7,7 @@ use Rattle.world.specs.declared.layout.Layout.{Layout}
 use Rattle.check_trees.specs.Jumps.{is_jump_inside}
 use Rattle.check_trees.specs.Tree.{is_expr_in_order, is_pat_in_order}
 use Rattle.check_items.specs.Agree.{IsListedRight, is_in_place}
-use Rattle.check_layouts.specs.inner.Layouts.{is_layout_right}
 use Rattle.check_layouts.specs.Sizes.{layout_above}
-use Rattle.check_layouts.specs.inner.Tags.{is_tag_right}
 use Rattle.check_layouts.specs.Laid.{HasRightTag, IsLaidOut}
 use Rattle.world_check.specs.Meets.{Agrees, HasEnclosingLabel, HasFittingTag, HasRightLayout, IsInOrder, Meets, if_at, if_there}
 use Rattle.world_check.specs.Tests.{agrees, has_enclosing_label, has_fitting_tag, is_in_order, is_laid_out, meets}
@@ -22,7 +20,7 @@ use Rattle.world_check.specs.declared.place.Place.TheVariants.{Row, Node}
 use Rattle.world_check.specs.declared.place.TableName.TheVariants.{Functions, Variants, Closures, Layouts}
 use Rattle.check_items.proofs.OwnPlaces.{variant_decides}
 use Rattle.world_check.proofs.InOrder.{expr_decides, jump_decides, pat_decides}
-use Rattle.check_layouts.proofs.Decided.{layout_decides, tag_decides}
+use Rattle.check_layouts.proofs.Decided.{is_layout_right, is_tag_right, layout_answer, tag_answer}
 
 there_decides : {X : Type 0} (test : X → Bool) (fact : X → Type 0) (found : Option X) → ((x : X) → found ≡ Some x → Decides (test x) (fact x)) → Decides (if_there test found) (IfSome found fact)
 there_decides test fact None h = ((λ e. tt), (λ u. refl))
@@ -48,11 +46,11 @@ label_decides world _ = ((λ e. tt), (λ u. refl))
 
 rightness_decides : (world : HirDatabase) (place : Place) → Decides (is_laid_out world place) (HasRightLayout world place)
 rightness_decides world (Row Layouts i) =
-    there_decides (is_layout_right world i) (λ (row : Ty × Layout). IsLaidOut world (layout_above world i) row.0 row.1) (slice_get world.layouts i) (λ row at. layout_decides world i row)
+    there_decides (is_layout_right world i) (λ (row : Ty × Layout). IsLaidOut world (layout_above world i) row.0 row.1) (slice_get world.layouts i) (λ row at. (layout_answer world i row).1)
 rightness_decides world _ = ((λ e. tt), (λ u. refl))
 
 fitting_decides : (world : HirDatabase) (place : Place) → Decides (has_fitting_tag world place) (HasFittingTag world place)
-fitting_decides world (Row Layouts i) = there_decides (is_tag_right world) (λ (row : Ty × Layout). HasRightTag world row.0 row.1) (slice_get world.layouts i) (λ row at. tag_decides world row)
+fitting_decides world (Row Layouts i) = there_decides (is_tag_right world) (λ (row : Ty × Layout). HasRightTag world row.0 row.1) (slice_get world.layouts i) (λ row at. (tag_answer world row).1)
 fitting_decides world _ = ((λ e. tt), (λ u. refl))
 
 agreement_decides : (world : HirDatabase) (place : Place) → Decides (agrees world place) (Agrees world place)

@@ -8,8 +8,7 @@ use Rattle.world.specs.declared.expr.Expr.{Expr}
 use Rattle.world.specs.declared.pat.Pat.{Pat}
 use Rattle.check_items.specs.Agree.{has_all_params, is_closure_row, is_in_place, wrong_variant}
 use Rattle.check_items.specs.Closed.{is_const_impl_closed, is_impl_closed, is_normal_closed}
-use Rattle.check_layouts.specs.inner.Layouts.{is_layout_right}
-use Rattle.check_layouts.specs.inner.Tags.{is_tag_right}
+use Rattle.check_layouts.proofs.Decided.{is_layout_right, is_tag_right}
 use Rattle.check_trees.specs.Ellipsis.{is_ellipsis_inside}
 use Rattle.check_trees.specs.Jumps.{is_jump_inside}
 use Rattle.check_trees.specs.Tree.{is_expr_in_order, is_pat_in_order}

@@ -23,8 +23,7 @@ use Rattle.check_trees.specs.Ellipsis.{wrong_ellipsis}
 use Rattle.check_trees.specs.Jumps.{wrong_jump}
 use Rattle.world.specs.Failing.{first_failing}
 use Rattle.check_trees.specs.Tree.{wrong_node}
-use Rattle.check_layouts.specs.inner.Layouts.{is_layout_right}
-use Rattle.check_layouts.specs.inner.Tags.{is_tag_right}
+use Rattle.check_layouts.proofs.Decided.{is_layout_right, is_tag_right}
 use Rattle.world_check.specs.Meets.{has_new_alias, has_new_const, has_new_function, has_new_type}
 use Rattle.world_check.specs.WorldPlaces.{node_place, part_place}
 use Rattle.world_check.specs.declared.place.NamedFunction.{NamedFunction}

@@ -1,26 +1,36 @@
-use Rattle.std.proofs.Common.{◌≡◌, true, false, slice_get, map, refl, sym, ◌∙◌, ap}
-use Rattle.check_instances.specs.Instances.{ty_instance}
-use Rattle.world.specs.declared.closures.Capture.{Capture}
-use Rattle.check_layouts.specs.inner.Fields.{are_inside, field_size, is_part_inside}
-use Rattle.check_layouts.proofs.Found.{none_found}
+use Rattle.std.proofs.Common.{sym, ◌∙◌, ap, subst, arith}
+use Rattle.std.proofs.lemmas.Bool.Decides.{not_from_Decides}
+use Rattle.check_layouts.specs.Laid.{AreCaptured, capture_type}
+use Rattle.check_layouts.specs.Sizes.{layout_above}
 use Rattle.check_layouts.specs.inner.Places.{capture_places, fixed_place}
-use Rattle.check_layouts.proofs.Inside.{inside_next, inside_fails}
+use Rattle.world.specs.declared.closures.Capture.{Capture}
+use Rattle.check_layouts.proofs.Deciding.{no, yes}
+use Rattle.check_layouts.proofs.Found.{none_found}
 use Rattle.check_layouts.proofs.Kept.{place_there}
+use Rattle.check_layouts.proofs.Placed.{captured_of, of_captured, part_decides, part_fails, part_next, parts_end}
 use Rattle.check_layouts.proofs.fields.are_captures_inside.Goals as goal
 
 pub returns-then-not-is_part_inside : goal.returns-then-not-is_part_inside
 returns-then-not-is_part_inside c =
-    let outside : is_part_inside c.args.size (slice_get c.args.offsets.now c.loop-k.k) (field_size c.args.db.now c.args.i ((λ (capture : Capture). ty_instance c.args.db.now.normals c.args.args.now capture.ty) c.index-items-k.result)) ≡ false = ap (λ offset. is_part_inside c.args.size offset (field_size c.args.db.now c.args.i ((λ (capture : Capture). ty_instance c.args.db.now.normals c.args.args.now capture.ty) c.index-items-k.result))) (sym (c.copied-offset.ensures ∙ c.get.ensures)) ∙ ap (is_part_inside c.args.size c.copied-offset.result) (sym c.in_ok-part.ensures.size) ∙ sym c.is_part_inside.ensures ∙ c.if-not-is_part_inside.true in
-    let whole = inside_fails c.args.db.now c.args.i c.args.size (λ (capture : Capture). ty_instance c.args.db.now.normals c.args.args.now capture.ty) c.args.offsets.now c.as_slice-items.result.now c.loop-k.k c.index-items-k.result c.index-items-k.result _ c.loop-k-test.true c.index-items-k.is outside c.loop-k.invariant.0 in
-    whole ∙ ap (λ items. are_inside c.args.db.now c.args.i c.args.size c.args.offsets.now (map (λ (capture : Capture). ty_instance c.args.db.now.normals c.args.args.now capture.ty) items)) c.as_slice-items.ensures
+    let look = layout_above c.args.db.now c.args.i in
+    let decides = part_decides look c.args.size c.copied-offset.result c.in_ok-part.part (capture_type c.args.db.now c.args.args.now c.index-items-k.result) c.is_part_inside.result c.in_ok-part.ensures.size c.is_part_inside.ensures in
+    no (λ all. part_fails look c.args.size c.args.offsets.now (capture_type c.args.db.now c.args.args.now) c.as_slice-items.result.now c.loop-k.k c.index-items-k.result c.copied-offset.result (c.copied-offset.ensures ∙ c.get.ensures) c.loop-k-test.true c.index-items-k.is
+    (not_from_Decides c.is_part_inside.result decides c.if-not-is_part_inside.true)
+    (of_captured c.args.db.now look c.args.size c.args.args.now c.args.offsets.now c.as_slice-items.result.now (subst (λ items. AreCaptured c.args.db.now look c.args.size c.args.offsets.now c.args.args.now items) (sym c.as_slice-items.ensures) all)))
 
 pub loop-k-preserved : goal.loop-k-preserved
 loop-k-preserved c =
-    let inside : is_part_inside c.args.size (slice_get c.args.offsets.now c.loop-k.k) (field_size c.args.db.now c.args.i ((λ (capture : Capture). ty_instance c.args.db.now.normals c.args.args.now capture.ty) c.index-items-k.result)) ≡ true = ap (λ offset. is_part_inside c.args.size offset (field_size c.args.db.now c.args.i ((λ (capture : Capture). ty_instance c.args.db.now.normals c.args.args.now capture.ty) c.index-items-k.result))) (sym (c.copied-offset.ensures ∙ c.get.ensures)) ∙ ap (is_part_inside c.args.size c.copied-offset.result) (sym c.in_ok-part.ensures.size) ∙ sym c.is_part_inside.ensures ∙ c.if-not-is_part_inside.false in
-    (inside_next c.args.db.now c.args.i c.args.size (λ (capture : Capture). ty_instance c.args.db.now.normals c.args.args.now capture.ty) c.args.offsets.now c.as_slice-items.result.now c.loop-k.k c.index-items-k.result c.index-items-k.result _ c.loop-k-test.true c.index-items-k.is inside c.loop-k.invariant.0, c.in_ok-part.ensures.sizes)
+    let look = layout_above c.args.db.now c.args.i in
+    let decides = part_decides look c.args.size c.copied-offset.result c.in_ok-part.part (capture_type c.args.db.now c.args.args.now c.index-items-k.result) c.is_part_inside.result c.in_ok-part.ensures.size c.is_part_inside.ensures in
+    (part_next look c.args.size c.args.offsets.now (capture_type c.args.db.now c.args.args.now) c.as_slice-items.result.now c.loop-k.k c.index-items-k.result c.copied-offset.result (c.copied-offset.ensures ∙ c.get.ensures) c.loop-k-test.true c.index-items-k.is (decides.0 c.if-not-is_part_inside.false) c.loop-k.invariant.0, c.in_ok-part.ensures.sizes)
+
+pub returns : goal.returns
+returns c =
+    let look = layout_above c.args.db.now c.args.i in
+    yes (subst (λ items. AreCaptured c.args.db.now look c.args.size c.args.offsets.now c.args.args.now items) c.as_slice-items.ensures (captured_of c.args.db.now look c.args.size c.args.args.now c.args.offsets.now c.as_slice-items.result.now (parts_end look c.args.size c.args.offsets.now (capture_type c.args.db.now c.args.args.now) c.as_slice-items.result.now c.loop-k.k c.loop-k-test.false c.loop-k.invariant.0)))
 
 pub loop-k-init : goal.loop-k-init
-loop-k-init c = (refl, none_found c.args.db.now c.args.i c.args.args.now c.new-sizes.result c.new-sizes.ensures)
+loop-k-init c = ((λ j h. absurd (omega arith)), none_found c.args.db.now c.args.i c.args.args.now c.new-sizes.result c.new-sizes.ensures)
 
 pub field_size-requires-clause-place : goal.field_size-requires-clause-place
 field_size-requires-clause-place c =

@@ -1,10 +1,10 @@
-use Rattle.std.proofs.Common.{◌≡◌, drop, map}
-use Rattle.check_instances.specs.Instances.{ty_instance}
-use Rattle.world.specs.declared.closures.Capture.{Capture}
-use Rattle.check_layouts.specs.inner.Fields.{AreSizesRight, are_inside}
+use Rattle.std.proofs.Common.{ℕ, ◌<◌, slice_get, IfSome}
+use Rattle.check_layouts.specs.Laid.{capture_type}
+use Rattle.check_layouts.specs.Sizes.{layout_above}
+use Rattle.check_layouts.specs.inner.Fields.{AreSizesRight, IsPartInside}
 use Rattle.check_layouts.proofs.fields.are_captures_inside.Given as goal
 
 abbrev pub invariant-loop-k : goal.invariant-loop-k
 invariant-loop-k l =
-    (are_inside l.db l.i l.size (drop l.k l.offsets) (map (λ (capture : Capture). ty_instance l.db.normals l.args capture.ty) (drop l.k l.items)) ≡ are_inside l.db l.i l.size l.offsets (map (λ (capture : Capture). ty_instance l.db.normals l.args capture.ty) l.items))
+    ((j : ℕ) → j < l.k → IfSome (slice_get l.items j) (λ capture. IsPartInside (layout_above l.db l.i) l.size (slice_get l.offsets j) (capture_type l.db l.args capture)))
     × AreSizesRight l.db l.i l.args l.sizes

@@ -1,8 +1,10 @@
-use Rattle.std.proofs.Common.{◌≡◌, drop}
-use Rattle.check_layouts.specs.inner.Fields.{AreSizesRight, are_inside, types_at}
+use Rattle.std.proofs.Common.{ℕ, ◌<◌, slice_get, IfSome}
+use Rattle.check_layouts.specs.Laid.{field_type}
+use Rattle.check_layouts.specs.Sizes.{layout_above}
+use Rattle.check_layouts.specs.inner.Fields.{AreSizesRight, IsPartInside}
 use Rattle.check_layouts.proofs.fields.are_fields_inside.Given as goal
 
 abbrev pub invariant-loop-k : goal.invariant-loop-k
 invariant-loop-k l =
-    (are_inside l.db l.i l.size (drop l.k l.offsets) (types_at l.db l.args (drop l.k l.items)) ≡ are_inside l.db l.i l.size l.offsets (types_at l.db l.args l.items))
+    ((j : ℕ) → j < l.k → IfSome (slice_get l.items j) (λ field. IsPartInside (layout_above l.db l.i) l.size (slice_get l.offsets j) (field_type l.db l.args field)))
     × AreSizesRight l.db l.i l.args l.sizes

@@ -1,9 +1,10 @@
-use Rattle.std.proofs.Common.{◌≡◌, drop}
-use Rattle.std.specs.List.{list_all}
-use Rattle.check_layouts.specs.inner.Fields.{AreSizesRight, is_placed_inside, unplaced_of_each}
+use Rattle.std.proofs.Common.{ℕ, ◌<◌, slice_get, IfSome}
+use Rattle.types.specs.declared.ids.VariantId.TheVariants as variant
+use Rattle.check_layouts.specs.Sizes.{layout_above}
+use Rattle.check_layouts.specs.inner.Fields.{AreSizesRight, IsItemKnown}
 use Rattle.check_layouts.proofs.layouts.are_variants_known.Given as goal
 
 abbrev pub invariant-loop-id : goal.invariant-loop-id
 invariant-loop-id l =
-    (list_all (is_placed_inside l.db l.i l.size) (unplaced_of_each l.db l.args (drop l.id-index l.ids)) ≡ list_all (is_placed_inside l.db l.i l.size) (unplaced_of_each l.db l.args l.ids))
+    ((j : ℕ) → j < l.id-index → IfSome (slice_get l.ids j) (λ id. IsItemKnown l.db (layout_above l.db l.i) l.args (variant.EnumVariantId id)))
     × AreSizesRight l.db l.i l.args l.sizes

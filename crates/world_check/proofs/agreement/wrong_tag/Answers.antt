@@ -1,5 +1,5 @@
 use Rattle.std.proofs.Common.{◌∙◌, sym}
-use Rattle.check_layouts.specs.inner.Tags.{is_tag_right}
+use Rattle.check_layouts.proofs.Decided.{is_tag_right}
 use Rattle.world_check.specs.declared.place.TableName.TheVariants.{Layouts}
 use Rattle.world_check.proofs.FoundPlaces.{tag_found}
 use Rattle.world_check.proofs.Walks.{row_found}
