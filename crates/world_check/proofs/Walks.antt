@@ -32,7 +32,7 @@ use Rattle.world_check.specs.declared.place.NodeKind.TheVariants.{Exprs, Pats}
 use Rattle.world_check.specs.declared.place.Place.{Place}
 use Rattle.world_check.specs.declared.place.Place.TheVariants.{Table, Row, Node, Function}
 use Rattle.world_check.specs.declared.place.TableName.{TableName}
-use Rattle.world_check.specs.declared.place.TableName.TheVariants.{Crates, Functions, Consts, Statics, Structs, Unions, Enums, Variants, Traits, Aliases, TypeParams, ConstParams, Closures, Bodies, Layouts, Normals, Impls, ConstImpls}
+use Rattle.world_check.specs.declared.place.TableName.TheVariants.{Crates, Functions, Consts, Statics, Structs, Unions, Enums, Variants, Traits, Aliases, TypeParams, ConstParams, Closures, Layouts, Normals, Impls, ConstImpls}
 
 -- the index of the first element that fails a test
 abbrev pub first_wrong : {X : Type 0} → (X → Bool) → List X → Option ℕ
