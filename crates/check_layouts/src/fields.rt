@@ -5,7 +5,7 @@ ghost use Rattle.types.specs.declared.ty.Ty.{Ty};
 ghost use Rattle.check_layouts.specs.Laid.{AreCaptured, AreInside, field_type, variants_of};
 ghost use Rattle.check_layouts.specs.Sizes.{layout_above};
 ghost use Rattle.check_layouts.specs.inner.Fields.{ArePartsInside, AreSizesRight, IsPartInside, IsPlaceOf, field_size};
-ghost use Rattle.check_layouts.specs.inner.Places.{capture_places, field_places, fixed_place, fixed_places};
+ghost use Rattle.check_layouts.specs.inner.Places.{AreCapturesFixed, AreFieldsFixed, AreFixed, IsFixed};
 
 use crate::places::{FixedPlace, FixedPlaces, place_of_index, places_of_captures};
 use crate::sizes::{layout_above, layout_at};
@@ -104,7 +104,7 @@ fn field_size(
     ty: &Ty,
 ) -> Result<Option<u64>, NoMemory>
     requires sizes { AreSizesRight db.now i args.now sizes.old }
-    requires place { fixed ≡ fixed_place db.now ty.now }
+    requires place { IsFixed db.now ty.now fixed }
     ensures size { IfOk result (λ size. size ≡ field_size db.now i (ty_instance db.now.normals args.now ty.now)) }
     ensures sizes { OnOk result (AreSizesRight db.now i args.now sizes.new) }
 {
@@ -152,7 +152,7 @@ pub(crate) fn are_fields_inside(
     fields: &List<FieldRow>,
 ) -> Result<bool, NoMemory>
     requires sizes { AreSizesRight db.now i args.now sizes.old }
-    requires places { places.now ≡ field_places db.now fields.now }
+    requires places { AreFieldsFixed db.now fields.now places.now }
     ensures inside { IfOk result (λ inside. Decides inside (ArePartsInside (layout_above db.now i) size offsets.now (field_type db.now args.now) fields.now)) }
     ensures sizes { OnOk result (AreSizesRight db.now i args.now sizes.new) }
 {
@@ -180,7 +180,7 @@ fn are_captures_inside(
     places: &[FixedPlace],
     captures: &List<Capture>,
 ) -> Result<bool, NoMemory>
-    requires { places.now ≡ capture_places db.now captures.now }
+    requires { AreCapturesFixed db.now captures.now places.now }
     ensures { IfOk result (λ inside. Decides inside (AreCaptured db.now (layout_above db.now i) size offsets.now args.now captures.now)) }
 {
     let mut sizes = Map::new(alloc);
@@ -207,7 +207,7 @@ pub(crate) fn is_closure_inside(
     offsets: &List<u64>,
     id: InternedClosureId,
 ) -> Result<bool, NoMemory>
-    requires { places.now ≡ fixed_places db.now }
+    requires { AreFixed db.now places.now }
     ensures { IfOk result (λ inside. Decides inside (IfSome (slice_get db.now.closures id.0) (λ row. AreCaptured db.now (layout_above db.now i) size offsets.now args.now row.captures))) }
 {
     match db.closures.get(id.0 as u64) {
@@ -245,7 +245,7 @@ pub(crate) fn are_fields_placed(
     fields: &List<FieldRow>,
 ) -> Result<bool, NoMemory>
     requires sizes { AreSizesRight db.now i args.now sizes.old }
-    requires places { places.now ≡ field_places db.now fields.now }
+    requires places { AreFieldsFixed db.now fields.now places.now }
     ensures right { IfOk result (λ right. Decides right (AreInside (layout_above db.now i) size offsets.now (field_type db.now args.now) fields.now)) }
     ensures sizes { OnOk result (AreSizesRight db.now i args.now sizes.new) }
 {

@@ -15,7 +15,7 @@ ghost use Rattle.world.specs.declared.layout.Variants.TheVariants.{Multiple};
 ghost use Rattle.check_layouts.specs.Laid.{AreCaptured, Has, HasLayout, IsLaidOut, IsRowLaidOut, IsTagInside, field_type, variant_fields};
 ghost use Rattle.check_layouts.specs.Sizes.{known_size, layout_above};
 ghost use Rattle.check_layouts.specs.inner.Fields.{AreFieldsInside, AreSizesRight, AreVariantsInside, IsItemInside, IsItemKnown};
-ghost use Rattle.check_layouts.specs.inner.Places.{fixed_places};
+ghost use Rattle.check_layouts.specs.inner.Places.{AreFixed};
 
 use crate::arrays::is_array_size;
 use crate::fields::{
@@ -75,7 +75,7 @@ fn are_item_fields_placed(
     v: VariantId,
 ) -> Result<bool, NoMemory>
     requires sizes { AreSizesRight db.now i args.now sizes.old }
-    requires places { places.now ≡ fixed_places db.now }
+    requires places { AreFixed db.now places.now }
     ensures right { IfOk result (λ right. Decides right (IsItemInside db.now (layout_above db.now i) size args.now offsets.now v)) }
     ensures sizes { OnOk result (AreSizesRight db.now i args.now sizes.new) }
 {
@@ -99,7 +99,7 @@ fn are_only_fields_placed(
     offsets: &List<u64>,
     v: VariantId,
 ) -> Result<bool, NoMemory>
-    requires { places.now ≡ fixed_places db.now }
+    requires { AreFixed db.now places.now }
     ensures { IfOk result (λ right. Decides right (IsItemInside db.now (layout_above db.now i) size args.now offsets.now v)) }
 {
     let mut sizes = Map::new(alloc);
@@ -118,7 +118,7 @@ fn are_variants_placed(
     lists: &List<List<u64>>,
     ids: &[EnumVariantId],
 ) -> Result<bool, NoMemory>
-    requires { places.now ≡ fixed_places db.now }
+    requires { AreFixed db.now places.now }
     ensures { IfOk result (λ right. Decides right ((k : ℕ) → IfSome (slice_get lists.now k) (λ offsets. IfSome (slice_get ids.now k) (λ id. IsItemInside db.now (layout_above db.now i) size args.now offsets (item.EnumVariantId id))))) }
 {
     let mut sizes = Map::new(alloc);
@@ -147,7 +147,7 @@ fn is_variant_placed(
     offsets: &List<u64>,
     variant: Option<&EnumVariantId>,
 ) -> Result<bool, NoMemory>
-    requires { places.now ≡ fixed_places db.now }
+    requires { AreFixed db.now places.now }
     ensures { IfOk result (λ right. Decides right (IfSome (option_copied variant.entry) (λ id. IsItemInside db.now (layout_above db.now i) size args.now offsets.now (item.EnumVariantId id)))) }
 {
     match variant {
@@ -170,7 +170,7 @@ fn is_enum_placed(
     args: &GenericArgs,
     layout: &Layout,
 ) -> Result<bool, NoMemory>
-    requires { places.now ≡ fixed_places db.now }
+    requires { AreFixed db.now places.now }
     ensures { IfOk result (λ right. Decides right (AreVariantsInside db.now (layout_above db.now i) (adt.EnumId id) args.now layout.now)) }
 {
     let size = layout.size;
@@ -197,7 +197,7 @@ fn are_type_fields_placed(
     ty: &Ty,
     layout: &Layout,
 ) -> Result<bool, NoMemory>
-    requires { places.now ≡ fixed_places db.now }
+    requires { AreFixed db.now places.now }
     ensures { IfOk result (λ right. Decides right (AreFieldsInside db.now (layout_above db.now i) ty.now layout.now)) }
 {
     let size = layout.size;
@@ -231,7 +231,7 @@ fn are_variant_fields_known(
     id: EnumVariantId,
 ) -> Result<bool, NoMemory>
     requires sizes { AreSizesRight db.now i args.now sizes.old }
-    requires places { places.now ≡ fixed_places db.now }
+    requires places { AreFixed db.now places.now }
     ensures known { IfOk result (λ known. Decides known (IsItemKnown db.now (layout_above db.now i) args.now (item.EnumVariantId id))) }
     ensures sizes { OnOk result (AreSizesRight db.now i args.now sizes.new) }
 {
@@ -256,7 +256,7 @@ fn are_variants_known(
     args: &GenericArgs,
     ids: &[EnumVariantId],
 ) -> Result<bool, NoMemory>
-    requires { places.now ≡ fixed_places db.now }
+    requires { AreFixed db.now places.now }
     ensures { IfOk result (λ known. Decides known ((v : ℕ) → IfSome (slice_get ids.now v) (λ id. IsItemKnown db.now (layout_above db.now i) args.now (item.EnumVariantId id)))) }
 {
     let mut sizes = Map::new(alloc);
@@ -278,7 +278,7 @@ fn are_enum_fields_known(
     size: u64,
     ty: &Ty,
 ) -> Result<bool, NoMemory>
-    requires { places.now ≡ fixed_places db.now }
+    requires { AreFixed db.now places.now }
     ensures { IfOk result (λ known. Decides known ((id : EnumId) (args : GenericArgs) (v k : ℕ) (rows : List FieldRow) (field : FieldRow) → ty.now ≡ Adt (adt.EnumId id) args → variant_fields db.now (adt.EnumId id) v ≡ Some rows → slice_get rows k ≡ Some field → HasLayout (layout_above db.now i) (field_type db.now args field))) }
 {
     match ty {
@@ -298,7 +298,7 @@ fn are_captures_placed(
     ty: &Ty,
     layout: &Layout,
 ) -> Result<bool, NoMemory>
-    requires { places.now ≡ fixed_places db.now }
+    requires { AreFixed db.now places.now }
     ensures { IfOk result (λ inside. Decides inside ((id : InternedClosureId) (args : GenericArgs) (row : ClosureRow) → ty.now ≡ Closure id args → slice_get db.now.closures id.0 ≡ Some row → AreCaptured db.now (layout_above db.now i) layout.now.size layout.now.offsets args row.captures)) }
 {
     match ty {
@@ -327,7 +327,7 @@ fn is_layout_right(
     i: u64,
     row: &(Ty, Layout),
 ) -> Result<bool, NoMemory>
-    requires { places.now ≡ fixed_places db.now }
+    requires { AreFixed db.now places.now }
     ensures { IfOk result (λ right. Decides right (IsLaidOut db.now (layout_above db.now i) row.now.0 row.now.1)) }
 {
     let ty = &row.0;

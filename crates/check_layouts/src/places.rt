@@ -1,8 +1,9 @@
 //! Where the types of fields and captures stand in `layouts`, where that is the same at all generic arguments.
 //! It is looked up once for each field as it is written, and not once for each layout of its struct, union,
 //! enum or closure, of which there may be many, each at arguments of its own.
-ghost use Rattle.std.specs.Prelude.{◌≡◌, [], IfOk, map, slice_get, unwrap_or};
-ghost use Rattle.check_layouts.specs.inner.Places.{capture_places, field_places, fixed_place, fixed_places, place_of_index, places_of_captures, places_of_fields};
+ghost use Rattle.std.specs.Prelude.{◌≡◌, [], None, IfOk, slice_get, unwrap_or};
+ghost use Rattle.std.specs.List.{AllZip};
+ghost use Rattle.check_layouts.specs.inner.Places.{AreCapturesFixed, AreFieldsFixed, AreFixed, IsFixed, places_of_fields};
 
 use check_instances::instance_place;
 use mentions::holds_param;
@@ -28,9 +29,8 @@ pub(crate) struct FixedPlaces {
 
 /// The place of a type, if it holds no generic parameter. Arguments then change nothing, so it is looked up
 /// at none.
-#[tactic(auto, unfolding(crate::specs::inner::Places::fixed_place))]
 fn fixed_place(alloc: Global, db: &HirDatabase, ty: &Ty) -> Result<FixedPlace, NoMemory>
-    ensures { IfOk result (λ place. place ≡ fixed_place db.now ty.now) }
+    ensures { IfOk result (λ place. IsFixed db.now ty.now place) }
 {
     if holds_param(ty) {
         return Ok(None);
@@ -46,7 +46,7 @@ fn field_places(
     db: &HirDatabase,
     fields: &List<FieldRow>,
 ) -> Result<List<FixedPlace>, NoMemory>
-    ensures { IfOk result (λ places. places ≡ field_places db.now fields.now) }
+    ensures { IfOk result (λ places. AreFieldsFixed db.now fields.now places) }
 {
     let mut places = List::new(alloc);
     let items = fields.as_slice();
@@ -62,7 +62,7 @@ fn capture_places(
     db: &HirDatabase,
     captures: &List<Capture>,
 ) -> Result<List<FixedPlace>, NoMemory>
-    ensures { IfOk result (λ places. places ≡ capture_places db.now captures.now) }
+    ensures { IfOk result (λ places. AreCapturesFixed db.now captures.now places) }
 {
     let mut places = List::new(alloc);
     let items = captures.as_slice();
@@ -78,7 +78,7 @@ fn struct_places(
     db: &HirDatabase,
     rows: &List<StructRow>,
 ) -> Result<List<List<FixedPlace>>, NoMemory>
-    ensures { IfOk result (λ places. places ≡ map (λ row. field_places db.now row.fields) rows.now) }
+    ensures { IfOk result (λ places. AllZip (λ row own. AreFieldsFixed db.now row.fields own) rows.now places) }
 {
     let mut places = List::new(alloc);
     let items = rows.as_slice();
@@ -94,7 +94,7 @@ fn variant_places(
     db: &HirDatabase,
     rows: &List<VariantRow>,
 ) -> Result<List<List<FixedPlace>>, NoMemory>
-    ensures { IfOk result (λ places. places ≡ map (λ row. field_places db.now row.fields) rows.now) }
+    ensures { IfOk result (λ places. AllZip (λ row own. AreFieldsFixed db.now row.fields own) rows.now places) }
 {
     let mut places = List::new(alloc);
     let items = rows.as_slice();
@@ -110,7 +110,7 @@ fn closure_places(
     db: &HirDatabase,
     rows: &List<ClosureRow>,
 ) -> Result<List<List<FixedPlace>>, NoMemory>
-    ensures { IfOk result (λ places. places ≡ map (λ row. capture_places db.now row.captures) rows.now) }
+    ensures { IfOk result (λ places. AllZip (λ row own. AreCapturesFixed db.now row.captures own) rows.now places) }
 {
     let mut places = List::new(alloc);
     let items = rows.as_slice();
@@ -121,9 +121,8 @@ fn closure_places(
 }
 
 /// The places of the types of all fields and captures.
-#[tactic(auto, unfolding(crate::specs::inner::Places::fixed_places))]
 pub(crate) fn fixed_places(alloc: Global, db: &HirDatabase) -> Result<FixedPlaces, NoMemory>
-    ensures { IfOk result (λ places. places ≡ fixed_places db.now) }
+    ensures { IfOk result (λ places. AreFixed db.now places) }
 {
     let structs = struct_places(alloc, db, &db.structs)?;
     let unions = struct_places(alloc, db, &db.unions)?;
@@ -160,14 +159,14 @@ pub(crate) fn places_of_fields(places: &FixedPlaces, v: VariantId) -> &[FixedPla
 
 /// The places of the types of the captures of a closure.
 pub(crate) fn places_of_captures(places: &FixedPlaces, id: InternedClosureId) -> &[FixedPlace]
-    ensures { result.now ≡ places_of_captures places.now id.0 }
+    ensures { result.now ≡ unwrap_or (slice_get places.now.closures id.0) [] }
 {
     row_places(&places.closures, id.0)
 }
 
 /// The place at an index; none past the end.
 pub(crate) fn place_of_index(places: &[FixedPlace], k: usize) -> FixedPlace
-    ensures { result ≡ place_of_index places.now k }
+    ensures { result ≡ unwrap_or (slice_get places.now k) None }
 {
     match places.get(k) {
         Some(place) => *place,

@@ -1,12 +1,14 @@
-use Rattle.std.proofs.Common.{sym, ◌∙◌, ap, subst}
+use Rattle.std.proofs.Common.{ℕ, length, Option, None, refl, sym, ◌∙◌, subst}
 use Rattle.std.proofs.lemmas.Bool.Decides.{not_from_Decides}
+use Rattle.std.proofs.lemmas.Option.{slice_get_read}
+use Rattle.std.specs.List.{AllZip}
 use Rattle.check_layouts.specs.Laid.{field_type}
 use Rattle.check_layouts.specs.Sizes.{layout_above}
 use Rattle.check_layouts.specs.inner.Fields.{ArePartsInside}
-use Rattle.check_layouts.specs.inner.Places.{field_places, fixed_place}
+use Rattle.check_layouts.specs.inner.Places.{IsFixed}
 use Rattle.world.specs.declared.items.FieldRow.{FieldRow}
 use Rattle.check_layouts.proofs.Deciding.{no, yes}
-use Rattle.check_layouts.proofs.Kept.{place_there}
+use Rattle.check_layouts.proofs.Kept.{kept_at}
 use Rattle.check_layouts.proofs.Placed.{part_decides, part_fails, part_next, parts_end}
 use Rattle.check_layouts.proofs.fields.are_fields_inside.Goals as goal
 
@@ -31,5 +33,7 @@ returns-clause-inside c =
 
 pub field_size-requires-clause-place : goal.field_size-requires-clause-place
 field_size-requires-clause-place c =
-    c.place_of_index-fixed.ensures
-    ∙ place_there (λ (field : FieldRow). fixed_place c.args.db.now field.ty) c.as_slice-items.result.now c.args.places.now c.loop-k.k c.index-items-k.result c.index-items-k.result c.loop-k-test.true c.index-items-k.is (c.requires.places ∙ ap (field_places c.args.db.now) (sym c.as_slice-items.ensures))
+    let fact = λ (field : FieldRow) (place : Option (Option ℕ)). IsFixed c.args.db.now field.ty place in
+    let here = slice_get_read c.as_slice-items.result.now (length c.as_slice-items.result.now) c.loop-k.k c.index-items-k.result refl c.loop-k-test.true c.index-items-k.is in
+    subst (fact c.index-items-k.result) (sym c.place_of_index-fixed.ensures)
+    (kept_at fact c.as_slice-items.result.now c.args.places.now c.loop-k.k c.index-items-k.result None here (subst (λ items. AllZip fact items c.args.places.now) (sym c.as_slice-items.ensures) c.requires.places))

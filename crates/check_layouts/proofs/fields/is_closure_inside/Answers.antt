@@ -1,8 +1,8 @@
-use Rattle.std.proofs.Common.{slice_get, ◌∙◌, ap}
+use Rattle.std.proofs.Common.{slice_get, sym, subst}
 use Rattle.world.specs.declared.closures.ClosureRow.{ClosureRow}
 use Rattle.check_layouts.specs.Laid.{AreCaptured}
 use Rattle.check_layouts.specs.Sizes.{layout_above}
-use Rattle.check_layouts.specs.inner.Places.{places_of_captures}
+use Rattle.check_layouts.specs.inner.Places.{AreCapturesFixed}
 use Rattle.check_layouts.proofs.Deciding.{found_ok}
 use Rattle.check_layouts.proofs.Kept.{own_captures}
 use Rattle.check_layouts.proofs.fields.is_closure_inside.Goals as goal
@@ -14,4 +14,4 @@ returns-in-Some c =
 
 pub are_captures_inside-requires : goal.are_captures_inside-requires
 are_captures_inside-requires c =
-    c.places_of_captures-own.ensures ∙ ap (λ places. places_of_captures places c.args.id.0) c.requires ∙ own_captures c.args.db.now c.args.id.0 c.in-Some.row.now c.in-Some.ensures
+    subst (AreCapturesFixed c.args.db.now c.in-Some.row.now.captures) (sym c.places_of_captures-own.ensures) (own_captures c.args.db.now c.args.places.now c.args.id.0 c.in-Some.row.now c.in-Some.ensures c.requires)

@@ -1,8 +1,8 @@
-use Rattle.std.proofs.Common.{◌∙◌, ap}
+use Rattle.std.proofs.Common.{sym, subst}
 use Rattle.world.specs.Lookups.{fields_of}
 use Rattle.check_layouts.specs.Laid.{AreInside, field_type}
 use Rattle.check_layouts.specs.Sizes.{layout_above}
-use Rattle.check_layouts.specs.inner.Places.{places_of_fields}
+use Rattle.check_layouts.specs.inner.Places.{AreFieldsFixed}
 use Rattle.check_layouts.proofs.Deciding.{found_ok}
 use Rattle.check_layouts.proofs.Kept.{own_fields}
 use Rattle.check_layouts.proofs.layouts.are_item_fields_placed.Goals as goal
@@ -14,4 +14,4 @@ returns-in-Some-clause-right c =
 
 pub are_fields_placed-requires-clause-places : goal.are_fields_placed-requires-clause-places
 are_fields_placed-requires-clause-places c =
-    c.places_of_fields-own.ensures ∙ ap (λ places. places_of_fields places c.args.v) c.requires.places ∙ own_fields c.args.db.now c.args.v c.in-Some.fields.now c.in-Some.ensures
+    subst (AreFieldsFixed c.args.db.now c.in-Some.fields.now) (sym c.places_of_fields-own.ensures) (own_fields c.args.db.now c.args.places.now c.args.v c.in-Some.fields.now c.in-Some.ensures c.requires.places)

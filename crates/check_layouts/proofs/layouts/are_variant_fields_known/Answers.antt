@@ -1,10 +1,10 @@
-use Rattle.std.proofs.Common.{ℕ, Decides, IfOk, IfSome, slice_get, ◌∙◌, ap, subst}
+use Rattle.std.proofs.Common.{ℕ, Decides, IfOk, IfSome, slice_get, sym, subst}
 use Rattle.types.specs.declared.ids.VariantId.TheVariants as variant
 use Rattle.world.specs.Lookups.{fields_of}
 use Rattle.check_layouts.specs.Laid.{HasLayout, field_type}
 use Rattle.check_layouts.specs.Sizes.{layout_above}
 use Rattle.check_layouts.specs.inner.Fields.{ArePartsInside}
-use Rattle.check_layouts.specs.inner.Places.{places_of_fields}
+use Rattle.check_layouts.specs.inner.Places.{AreFieldsFixed}
 use Rattle.check_layouts.proofs.Deciding.{found_ok, like_ok}
 use Rattle.check_layouts.proofs.Kept.{own_fields}
 use Rattle.check_layouts.proofs.Placed.{known_of, of_known}
@@ -22,4 +22,4 @@ returns-in-Some-clause-known c =
 
 pub are_fields_inside-requires-clause-places : goal.are_fields_inside-requires-clause-places
 are_fields_inside-requires-clause-places c =
-    c.places_of_fields-own.ensures ∙ ap (λ places. places_of_fields places (variant.EnumVariantId c.args.id)) c.requires.places ∙ own_fields c.args.db.now (variant.EnumVariantId c.args.id) c.in-Some.fields.now c.in-Some.ensures
+    subst (AreFieldsFixed c.args.db.now c.in-Some.fields.now) (sym c.places_of_fields-own.ensures) (own_fields c.args.db.now c.args.places.now (variant.EnumVariantId c.args.id) c.in-Some.fields.now c.in-Some.ensures c.requires.places)
