@@ -126,7 +126,7 @@ module _ (world : HirDatabase) (look : Ty → Option Layout) (ty : Ty) (layout :
   pub adt_of : (id : AdtId) (args : GenericArgs) → ty ≡ type.Adt id args → AreVariantsInside world look id args layout → Fields
   adt_of id args is inside = (only_adt (λ i a. AreVariantsInside world look i a layout) ty id args is inside, λ types also. absurd (adt_not_tuple ty id args types is also))
 
-  pub tuple_of : (types : List Ty) → ty ≡ type.Tuple types → AreInside look layout.size layout.offsets Some types → Fields
+  tuple_of : (types : List Ty) → ty ≡ type.Tuple types → AreInside look layout.size layout.offsets Some types → Fields
   tuple_of types is inside = ((λ id args also. absurd (adt_not_tuple ty id args types also is)), only_tuple (λ parts. AreInside look layout.size layout.offsets Some parts) ty types is inside)
 
   adt_answer : (id : AdtId) (args : GenericArgs) → Answer (AreVariantsInside world look id args layout)
@@ -149,11 +149,11 @@ module _ (world : HirDatabase) (look : Ty → Option Layout) (ty : Ty) (layout :
   abbrev pub IsClosureCaptured : InternedClosureId → GenericArgs → Type 0
   IsClosureCaptured id args = IfSome (slice_get world.closures id.0) (λ row. AreCaptured world look layout.size layout.offsets args row.captures)
 
-  pub captures_of : (id : InternedClosureId) (args : GenericArgs) → ty ≡ type.Closure id args → IsClosureCaptured id args → AreClosuresCaptured
+  captures_of : (id : InternedClosureId) (args : GenericArgs) → ty ≡ type.Closure id args → IsClosureCaptured id args → AreClosuresCaptured
   captures_of id args is captured other given row also at =
       of_there (λ (closure : ClosureRow). AreCaptured world look layout.size layout.offsets given closure.captures) (slice_get world.closures other.0) row at (only_closure IsClosureCaptured ty id args is captured other given also)
 
-  pub of_captures : (id : InternedClosureId) (args : GenericArgs) → ty ≡ type.Closure id args → AreClosuresCaptured → IsClosureCaptured id args
+  of_captures : (id : InternedClosureId) (args : GenericArgs) → ty ≡ type.Closure id args → AreClosuresCaptured → IsClosureCaptured id args
   of_captures id args is captured = there (λ (closure : ClosureRow). AreCaptured world look layout.size layout.offsets args closure.captures) (slice_get world.closures id.0) (λ row at. captured id args row is at)
 
   captures_answer : Answer AreClosuresCaptured

@@ -36,7 +36,7 @@ module _ (look : Ty → Option Layout) (size : ℕ) where
   lies ty layout has None h = tt
   lies ty layout has (Some start) h = record { ty = ty; layout = layout; is = refl; has = has; ends = h }
 
-  pub part_from_size : (offset : Option ℕ) (found : Option Ty) → EndsInside offset (part_size found) → IsPartInside look size offset found
+  part_from_size : (offset : Option ℕ) (found : Option Ty) → EndsInside offset (part_size found) → IsPartInside look size offset found
   part_from_size offset None h = cc
   part_from_size offset (Some ty) h = by (look ty) refl h
     where
@@ -46,7 +46,7 @@ module _ (look : Ty → Option Layout) (size : ℕ) where
           let e : n ≡ layout.size = cc in
           (record { ty = ty; layout = layout; is = refl; has = has }, lies ty layout has offset (subst (λ m. IfSome offset (λ start. start + m ≤ size)) e ends))
 
-  pub size_from_part : (offset : Option ℕ) (found : Option Ty) → IsPartInside look size offset found → EndsInside offset (part_size found)
+  size_from_part : (offset : Option ℕ) (found : Option Ty) → IsPartInside look size offset found → EndsInside offset (part_size found)
   size_from_part offset found (known, inside) = (known.layout.size, own known, ends offset inside)
     where
       own : (part : HasLayout look found) → part_size found ≡ Some part.layout.size
@@ -111,7 +111,7 @@ module _ {X : Type 0} (look : Ty → Option Layout) (size : ℕ) (offsets : List
   pub parts_end : (k : ℕ) → length parts ≤ k → ((j : ℕ) → j < k → IfSome (slice_get parts j) (Part j)) → ArePartsInside look size offsets type_of parts
   parts_end k past before = walk_end Part parts k past before
 
-  pub each_answer : Answer (ArePartsInside look size offsets type_of parts)
+  each_answer : Answer (ArePartsInside look size offsets type_of parts)
   each_answer = if_each Part parts (λ k part. part_answer look size (slice_get offsets k) (type_of part))
 
   pub inside_answer : Answer (AreInside look size offsets type_of parts)
@@ -139,7 +139,7 @@ module _ (world : HirDatabase) (look : Ty → Option Layout) (size : ℕ) (args 
       (λ k field at. of_there (λ f. HasLayout look (field_type world args f)) (slice_get rows k) field at (known k))
       (λ k offset field at begins. cc)
 
-  pub item_answer : (offsets : List ℕ) (item : VariantId) → Answer (IsItemInside world look size args offsets item)
+  item_answer : (offsets : List ℕ) (item : VariantId) → Answer (IsItemInside world look size args offsets item)
   item_answer offsets item = if_there (λ rows. AreInside look size offsets (field_type world args) rows) (fields_of world item) (λ rows. inside_answer look size offsets (field_type world args) rows)
 
   pub item_known_answer : (item : VariantId) → Answer (IsItemKnown world look args item)
@@ -194,7 +194,7 @@ module _ (world : HirDatabase) (look : Ty → Option Layout) (args : GenericArgs
     abbrev pub EachVariant : List (List ℕ) → Type 0
     EachVariant lists = (k : ℕ) → IfSome (slice_get lists k) (OneList k)
 
-    pub empty_of : layout.variants ≡ Empty → AllInside
+    empty_of : layout.variants ≡ Empty → AllInside
     empty_of is v rows offsets found begins = let none : None ≡ Some offsets = ap (λ (some : Variants). offsets_among some layout.offsets v) (sym is) ∙ begins in cc
 
     one_begins : (v s : ℕ) (offsets : List ℕ) → cond (eqb v s) (Some layout.offsets) None ≡ Some offsets → (v ≡ s) × (layout.offsets ≡ offsets)

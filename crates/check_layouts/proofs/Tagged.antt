@@ -25,7 +25,7 @@ niche_answer variants size Direct = (true, yes tt)
 niche_answer variants size (Niche untagged first last start) = both_of (below untagged variants) (at_most (start + (variants - 1)) (2 ^ (8 * size)))
 
 -- the parts of what is asked of a tag
-pub tag_like : (variants : ℕ) (multiple : MultiLayout) (b : Bool) → Decides b ((length multiple.variants ≡ variants) × ((variants ≤ 2 ^ (8 * multiple.tag_size)) × IsNiche variants multiple.tag_size multiple.encoding)) → Decides b (IsTag variants multiple)
+tag_like : (variants : ℕ) (multiple : MultiLayout) (b : Bool) → Decides b ((length multiple.variants ≡ variants) × ((variants ≤ 2 ^ (8 * multiple.tag_size)) × IsNiche variants multiple.tag_size multiple.encoding)) → Decides b (IsTag variants multiple)
 tag_like variants multiple b decides = Decides-like b (λ parts. record { count = parts.0; values = parts.1.0; niche = parts.1.1 }) (λ tag. (tag.count, (tag.values, tag.niche))) decides
 
 tag_of : (variants : ℕ) (multiple : MultiLayout) → Answer (IsTag variants multiple)
@@ -37,17 +37,17 @@ tag_of variants multiple =
 abbrev pub FitsEnum : ℕ → Variants → Type 0
 FitsEnum count variants = ((multiple : MultiLayout) → variants ≡ Multiple multiple → IsTag count multiple) × ((i : ℕ) → variants ≡ Single i → i < count)
 
-pub fits_empty : (count : ℕ) (variants : Variants) → variants ≡ Empty → FitsEnum count variants
+fits_empty : (count : ℕ) (variants : Variants) → variants ≡ Empty → FitsEnum count variants
 fits_empty count variants is = ((λ multiple e. cc), (λ i e. cc))
 
-pub fits_single : (count : ℕ) (variants : Variants) (i : ℕ) (b : Bool) → variants ≡ Single i → Decides b (i < count) → Decides b (FitsEnum count variants)
+fits_single : (count : ℕ) (variants : Variants) (i : ℕ) (b : Bool) → variants ≡ Single i → Decides b (i < count) → Decides b (FitsEnum count variants)
 fits_single count variants i b is decides =
     Decides-like b
     (λ less. ((λ multiple e. cc), (λ j e. let same_index : i ≡ j = cc in subst (λ n. n < count) same_index less)))
     (λ fits. fits.1 i is)
     decides
 
-pub fits_multiple : (count : ℕ) (variants : Variants) (multiple : MultiLayout) (b : Bool) → variants ≡ Multiple multiple → Decides b (IsTag count multiple) → Decides b (FitsEnum count variants)
+fits_multiple : (count : ℕ) (variants : Variants) (multiple : MultiLayout) (b : Bool) → variants ≡ Multiple multiple → Decides b (IsTag count multiple) → Decides b (FitsEnum count variants)
 fits_multiple count variants multiple b is decides =
     Decides-like b
     (λ tag. ((λ other e. let one : multiple ≡ other = cc in subst (IsTag count) one tag), (λ j e. cc)))
@@ -85,7 +85,7 @@ module _ (world : HirDatabase) (ty : Ty) (layout : Layout) where
           let layers : layer.Adt (EnumId id) args ≡ layer.Adt (EnumId other) given = sym (adt_out (EnumId id) args) ∙ ap out-Ty (sym is ∙ also) ∙ adt_out (EnumId other) given in
           cc
 
-  pub other_decides : (b : Bool) → ((id : EnumName) (args : GenericArgs) → ty ≡ type.Adt (EnumId id) args → ⊥) → Decides b (IsUntagged layout.variants) → Decides b (HasRightTag world ty layout)
+  other_decides : (b : Bool) → ((id : EnumName) (args : GenericArgs) → ty ≡ type.Adt (EnumId id) args → ⊥) → Decides b (IsUntagged layout.variants) → Decides b (HasRightTag world ty layout)
   other_decides b other decides =
       Decides-like b
       (λ untagged. record {
