@@ -20,6 +20,7 @@ use crate::structs::{
     FieldExprs, StructAt, StructLiteral, StructValue, constructed, gives_all_fields,
     gives_known_fields, names_unit, struct_args, struct_made,
 };
+use check_instances::ready_instance;
 use either::Either;
 use mir::{BinOp, PlaceElem, UnOp};
 use world::{
@@ -154,7 +155,7 @@ fn path_form<'a>(names_unit: bool, names_item: bool, name: &'a Text) -> Form<'a>
     }
 }
 
-/// The step to a field of a struct, where the base is that struct and has no generic arguments.
+/// The step to a field of a struct, where the base is that struct, and the field's type needn't be made at its generic arguments.
 #[tactic(auto, unfolding(source_meaning::specs::Source::node_type, source_meaning::specs::Source::own_type))]
 fn struct_step(
     context: &Context<'_>,
@@ -162,19 +163,18 @@ fn struct_step(
     field: FieldId,
     base: ExprId,
 ) -> Option<FieldStep>
-    ensures { option_map core_elem result ≡ step_to (type_of_value context.now.infer.now base) field (variant.StructId id) }
+    ensures { option_map core_elem result ≡ step_to context.now.db.now (type_of_value context.now.infer.now base) field (variant.StructId id) }
 {
     let args = struct_args(id, value_type(context, base)?)?;
-    if args.0.len() == 0 {
-        Some(FieldStep::Field(field))
-    } else {
-        None
-    }
+    let fields = context.db.field_types(VariantId::StructId(id))?;
+    let row = fields.get(field.local_id as u64)?;
+    ready_instance(args, &row.ty)?;
+    Some(FieldStep::Field(field))
 }
 
 /// The step that a field expression takes from its base.
 fn field_taken(context: &Context<'_>, e: ExprId, base: ExprId) -> Option<FieldStep>
-    ensures { option_map core_elem result ≡ field_taken context.now.infer.now e base }
+    ensures { option_map core_elem result ≡ field_taken context.now.db.now context.now.infer.now e base }
 {
     match context.infer.field_res.get(&e) {
         Some(Either::Left(field)) => match field.parent {
@@ -560,7 +560,7 @@ fn is_adjusted_twice(context: &Context<'_>, e: ExprId) -> bool
 
 /// The base and the step of the field or the element that an expression is, where it is one.
 fn part_in(context: &Context<'_>, e: ExprId, expr: Option<&Expr>) -> Option<(ExprId, FieldStep)>
-    ensures { option_map (λ part. (part.0.0, core_elem part.1)) result ≡ option_and_then (part_in (field_taken context.now.infer.now e) (element_taken context.now.infer.now e)) (option_copied expr.entry) }
+    ensures { option_map (λ part. (part.0.0, core_elem part.1)) result ≡ option_and_then (part_in (field_taken context.now.db.now context.now.infer.now e) (element_taken context.now.infer.now e)) (option_copied expr.entry) }
 {
     match expr {
         Some(Expr::Field { expr, .. }) => Some((*expr, field_taken(context, e, *expr)?)),

@@ -3,3 +3,4 @@ pub mod Parts
 pub mod Variants
 pub mod Comparisons
 pub mod Made
+pub mod Ready

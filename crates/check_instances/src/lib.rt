@@ -10,9 +10,11 @@ mod no_instance;
 mod numbers;
 mod opening;
 mod places;
+mod ready;
 mod unopened;
 mod variants;
 
 pub use instances::{args_instance, ty_instance};
 pub use no_instance::NoInstance;
 pub use places::instance_place;
+pub use ready::ready_instance;

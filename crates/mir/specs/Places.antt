@@ -12,7 +12,7 @@ use Rattle.mir.specs.declared.operand.Place.{Place}
 use Rattle.mir.specs.declared.projection.ProjectionElem.TheVariants.{Field, Index}
 use Rattle.mir.specs.Addresses.{moved}
 use Rattle.mir.specs.Elements.{PlaceElem}
-use Rattle.mir.specs.ProjectedTypes.{array_element, array_length, own_field_type, part_type}
+use Rattle.mir.specs.ProjectedTypes.{array_element, array_length, part_type, ready_field_type}
 use Rattle.mir.specs.Projections.{Projection, projection_of}
 
 -- The elements of a place's projection. The id 0 is that of the empty one, in each store.
@@ -21,7 +21,7 @@ elements_of body place = if place.projection.0 == 0 then Some [] else projection
 
 -- The type that an element leads to from a value of a type. So far a run goes into parts of tuples, fields of structs and elements of arrays alone.
 abbrev pub elem_type : HirDatabase → PlaceElem → Ty → Option Ty
-elem_type world (Field (Left field)) ty = own_field_type world field ty
+elem_type world (Field (Left field)) ty = ready_field_type world field ty
 elem_type world (Field (Right field)) ty = part_type field ty
 elem_type world (Index local) ty = array_element ty
 elem_type world _ ty = None

@@ -2,6 +2,7 @@
 use Rattle.std.specs.Prelude.{◌≡◌, ℕ, ◌+◌, ◌-◌, ◌==◌, Bool, false, if◌then◌else◌, nat_le, List, length, Option, Some, None, slice_get, option_map, option_and_then}
 use Rattle.either.specs.declared.Either.TheVariants.{Left, Right}
 use Rattle.check_instances.specs.Instances.{ty_instance, type_argument}
+use Rattle.check_instances.specs.Ready.{ready_instance}
 use Rattle.numbers.specs.Bytes.{low_digits}
 use Rattle.numbers.specs.Constants.{number_in}
 use Rattle.types.specs.declared.ids.AdtId.TheVariants.{StructId as StructAdt}
@@ -71,23 +72,19 @@ field_at world field _ = None
 abbrev pub field_type : HirDatabase → FieldId → Ty → Option Ty
 field_type world field ty = field_at world field (out-Ty ty)
 
--- whether there are no generic arguments
-abbrev pub are_no_args : GenericArgs → Bool
-are_no_args args = length args.0 == 0
-
 -- the fields of a struct
 abbrev struct_fields : HirDatabase → VariantId → Option (List FieldRow)
 struct_fields world (variant.StructId id) = fields_of world (variant.StructId id)
 struct_fields world _ = None
 
--- The type of a field of a struct that has no generic arguments, as its row says it: there is no parameter that an argument could stand for.
-abbrev own_field_at : HirDatabase → FieldId → TyLayer → Option Ty
-own_field_at world field (layer.Adt id args) =
-    if are_no_args args then option_map (λ row. row.ty) (option_and_then (λ fields. slice_get fields field.local_id) (struct_fields world field.parent)) else None
-own_field_at world field _ = None
+-- the type of a field of a struct at its generic arguments, where it needn't be made
+abbrev ready_field_at : HirDatabase → FieldId → TyLayer → Option Ty
+ready_field_at world field (layer.Adt id args) =
+    option_and_then (λ row. ready_instance args row.ty) (option_and_then (λ fields. slice_get fields field.local_id) (struct_fields world field.parent))
+ready_field_at world field _ = None
 
-abbrev pub own_field_type : HirDatabase → FieldId → Ty → Option Ty
-own_field_type world field ty = own_field_at world field (out-Ty ty)
+abbrev pub ready_field_type : HirDatabase → FieldId → Ty → Option Ty
+ready_field_type world field ty = ready_field_at world field (out-Ty ty)
 
 -- the type of a part of a tuple
 abbrev part_at : TupleFieldId → TyLayer → Option Ty

@@ -6,10 +6,10 @@ ghost use Rattle.std.specs.Option.{option_copied};
 ghost use Rattle.types.specs.declared.ty.GenericArgs.{GenericArgs as Args};
 ghost use Rattle.check_instances.specs.Instances.{type_argument};
 ghost use Rattle.numbers.specs.Constants.{number_in};
-ghost use Rattle.mir.specs.ProjectedTypes.{IsProjected, element_type, field_type, or_error, own_field_type, part_type, pointee, seen, subslice_type, usize_const};
+ghost use Rattle.mir.specs.ProjectedTypes.{IsProjected, element_type, field_type, or_error, part_type, pointee, ready_field_type, seen, subslice_type, usize_const};
 
 use crate::ProjectionElem;
-use check_instances::{NoInstance, ty_instance};
+use check_instances::{NoInstance, ready_instance, ty_instance};
 use either::Either;
 use numbers::number_in;
 use std::alloc::Global;
@@ -112,16 +112,14 @@ fn field_ty(alloc: Global, db: &HirDatabase, ty: &Ty, field: FieldId) -> Result<
     }
 }
 
-/// The type of a field of a struct that has no generic arguments, as its row says it.
-pub fn struct_field<'a>(db: &'a HirDatabase, field: FieldId, ty: &Ty) -> Option<&'a Ty>
-    ensures { option_copied result ≡ own_field_type db.now field ty.now }
+/// The type of a field of a struct at its generic arguments, where it needn't be made: the row's, where that holds no generic
+/// parameter, or the argument of the parameter that it is.
+pub fn struct_field<'a>(db: &'a HirDatabase, field: FieldId, ty: &'a Ty) -> Option<&'a Ty>
+    ensures { option_copied result ≡ ready_field_type db.now field ty.now }
 {
     let Ty::Adt(_, args) = ty else {
         return None;
     };
-    if args.0.len() != 0 {
-        return None;
-    }
     let VariantId::StructId(_) = field.parent else {
         return None;
     };
@@ -129,7 +127,7 @@ pub fn struct_field<'a>(db: &'a HirDatabase, field: FieldId, ty: &Ty) -> Option<
         return None;
     };
     match fields.get(field.local_id as u64) {
-        Some(row) => Some(&row.ty),
+        Some(row) => ready_instance(args, &row.ty),
         None => None,
     }
 }

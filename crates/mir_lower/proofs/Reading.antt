@@ -64,14 +64,10 @@ by_layer : (world : HirDatabase) (index : ℕ) (ty : Ty) (one : TyLayer) → out
 by_layer world index ty (layer.Tuple parts) is = rw (is) refl
 by_layer world index ty _ is = rw (is) refl
 
-none-either : {A : Type 0} (test : Bool) → ◌≡◌ {A = Option A} (if test then None else None) None
-none-either true = refl
-none-either false = refl
-
 by_parent : (world : HirDatabase) (field : FieldId) (parent : VariantId) (ty : Ty) (one : TyLayer) → field.parent ≡ parent → out-Ty ty ≡ one → graph.elem_type world (field_elem field) ty ≡ source_place.elem_type world (FieldOf field) ty
 by_parent world field (variant.StructId id) ty (layer.Adt of args) of_struct is = rw (of_struct, is) refl
-by_parent world field (variant.EnumVariantId id) ty (layer.Adt of args) of_struct is = rw (of_struct, is) (none-either (length args.0 == 0))
-by_parent world field (variant.UnionId id) ty (layer.Adt of args) of_struct is = rw (of_struct, is) (none-either (length args.0 == 0))
+by_parent world field (variant.EnumVariantId id) ty (layer.Adt of args) of_struct is = rw (of_struct, is) refl
+by_parent world field (variant.UnionId id) ty (layer.Adt of args) of_struct is = rw (of_struct, is) refl
 by_parent world field (variant.StructId id) ty _ of_struct is = rw (of_struct, is) refl
 by_parent world field (variant.EnumVariantId id) ty _ of_struct is = rw (of_struct, is) refl
 by_parent world field (variant.UnionId id) ty _ of_struct is = rw (of_struct, is) refl

@@ -1,9 +1,10 @@
 -- Each expression that an expression evaluates stands before it.
 use Rattle.std.specs.Prelude.{flat_map, Contains}
-use Rattle.std.proofs.Common.{⊎_elim, ◌≡◌, ◌==◌, ℕ, ◌<◌, Bool, true, false, List, [], ◌∷◌, ◌++◌, length, ◌&&◌, Option, Some, None, option_map, option_and_then, slice_get, if◌then◌else◌, refl, sym, ap, ◌∙◌, subst, arith}
+use Rattle.std.proofs.Common.{⊎_elim, ◌≡◌, ◌==◌, ℕ, ◌<◌, Bool, true, false, List, [], ◌∷◌, ◌++◌, length, ◌&&◌, Option, Some, None, option_map, option_and_then, is_some, slice_get, if◌then◌else◌, refl, sym, ap, ◌∙◌, subst, arith}
 use Rattle.std.proofs.lemmas.List.Elements.{All-contains, Contains-append_left, Contains-append_right, Contains-append_cases}
 use Rattle.world.specs.declared.body.Statement.{Statement}
 use Rattle.world.specs.declared.body.Statement.TheVariants as statement
+use Rattle.world.specs.declared.database.HirDatabase.{HirDatabase}
 use Rattle.world.specs.declared.expr.Expr.TheVariants as whole
 use Rattle.world.specs.declared.expr.Expr.{Expr}
 use Rattle.world.specs.declared.expr.RecordLitField.{RecordLitField}
@@ -27,9 +28,9 @@ use Rattle.world.specs.declared.infer.InferenceResult.{InferenceResult}
 use Rattle.types.specs.declared.operators.BinaryOp.{BinaryOp}
 use Rattle.types.specs.declared.operators.BinaryOp.TheVariants as binary
 use Rattle.numbers.specs.Operators.{of_arith, of_compare}
-use Rattle.source_meaning.specs.Core.{CoreExpr, Findings, are_none, Operation, MakeTuple, MakeArray, Repeat, MakeStruct, PlaceElem, ElementAt, FieldOf, Part, Literal, Path, UnitStruct, Field, Strict, Update, Logic, If, Assign, Compound, Block, Labelled, Loop, Break, Continue, Return, Call, core_literal, unary_operation, unary_form, eager_form, binary_form, call_form, path_form, record_form, step_from, core_of, element_taken, expr_in, field_named, field_step, field_taken, is_adjusted_twice, is_dereferenced_pattern, part_in, step_to, value_type}
+use Rattle.source_meaning.specs.Core.{CoreExpr, Findings, Operation, MakeTuple, MakeArray, Repeat, MakeStruct, PlaceElem, ElementAt, FieldOf, Part, Literal, Path, UnitStruct, Field, Strict, Update, Logic, If, Assign, Compound, Block, Labelled, Loop, Break, Continue, Return, Call, core_literal, unary_operation, unary_form, eager_form, binary_form, call_form, path_form, record_form, step_from, core_of, element_taken, expr_in, field_named, field_step, field_taken, is_adjusted_twice, is_dereferenced_pattern, part_in, step_to, value_type}
 use Rattle.source_meaning.specs.Indices.{is_array, is_usize}
-use Rattle.source_meaning.specs.Structs.{StructAt, all_places, all_sources, places_in_order, struct_args}
+use Rattle.source_meaning.specs.Structs.{StructAt, all_places, all_sources, places_in_order, ready_field, struct_args}
 use Rattle.source_meaning.specs.Source.{Source, assigned_by, assigned_field, assignee_by, findings, is_adjusted, node, pattern_expr}
 use Rattle.source_meaning.specs.Steps.{parts_of, assigned_parts, assignee_parts, statement_parts}
 use Rattle.source_meaning.proofs.Parts.{elem_parts, first_is_contained, nothing_is_contained, rest_is_contained, among_more, strict_parts, update_parts, if_parts, compound_parts, block_parts, tail_part, call_parts}
@@ -51,21 +52,21 @@ unary_parts : (e : ℕ) (given : Option Operation) (core : CoreExpr) → unary_f
 unary_parts e given core is = let from = mapped (λ op. Strict op (e ∷ [])) given core is in ap (λ c. parts_of (Some c)) (sym from.2)
 
 -- a step to a field or to the part of a tuple evaluates nothing
-step_to_parts : (base : Option Ty) (field : FieldId) (parent : VariantId) (elem : PlaceElem) → step_to base field parent ≡ Some elem → elem_parts elem ≡ []
-step_to_parts base field (variant.StructId id) elem is = by_test (are_none (option_and_then (struct_args id) base)) is
+step_to_parts : (world : HirDatabase) (base : Option Ty) (field : FieldId) (parent : VariantId) (elem : PlaceElem) → step_to world base field parent ≡ Some elem → elem_parts elem ≡ []
+step_to_parts world base field (variant.StructId id) elem is = by_test (is_some (option_and_then (ready_field world id field.local_id) (option_and_then (struct_args id) base))) is
   where
     by_test : (test : Bool) → (if test then Some (FieldOf field) else None) ≡ Some elem → elem_parts elem ≡ []
     by_test true taken = let same : FieldOf field ≡ elem = cc in ap elem_parts (sym same)
     by_test false taken = absurd cc
-step_to_parts base field _ elem is = absurd cc
+step_to_parts world base field _ elem is = absurd cc
 
-field_step_parts : (base : Option Ty) (to : Option (Either FieldId TupleFieldId)) (elem : PlaceElem) → option_and_then (field_step base) to ≡ Some elem → elem_parts elem ≡ []
-field_step_parts base (Some (Left field)) elem is = step_to_parts base field field.parent elem is
-field_step_parts base (Some (Right field)) elem is = let same : Part field.index ≡ elem = cc in ap elem_parts (sym same)
-field_step_parts base None elem is = absurd cc
+field_step_parts : (world : HirDatabase) (base : Option Ty) (to : Option (Either FieldId TupleFieldId)) (elem : PlaceElem) → option_and_then (field_step world base) to ≡ Some elem → elem_parts elem ≡ []
+field_step_parts world base (Some (Left field)) elem is = step_to_parts world base field field.parent elem is
+field_step_parts world base (Some (Right field)) elem is = let same : Part field.index ≡ elem = cc in ap elem_parts (sym same)
+field_step_parts world base None elem is = absurd cc
 
-pub field_taken_parts : (infer : InferenceResult) (e base : ExprId) (elem : PlaceElem) → field_taken infer e base ≡ Some elem → elem_parts elem ≡ []
-field_taken_parts infer e base elem is = field_step_parts (value_type infer base) (field_named infer e) elem is
+pub field_taken_parts : (world : HirDatabase) (infer : InferenceResult) (e base : ExprId) (elem : PlaceElem) → field_taken world infer e base ≡ Some elem → elem_parts elem ≡ []
+field_taken_parts world infer e base elem is = field_step_parts world (value_type infer base) (field_named infer e) elem is
 
 -- that to an element is one by the index of the expression itself
 pub element_taken_is : (infer : InferenceResult) (e base index : ExprId) (elem : PlaceElem) → element_taken infer e base index ≡ Some elem → ElementAt e.0 index.0 ≡ elem
@@ -82,7 +83,7 @@ record TakesSteps (found : Findings) : Type 0 where
 
 takes-steps : (source : Source) (e : ℕ) → TakesSteps (findings source e)
 takes-steps source e = record {
-  field = field_taken_parts source.infer (record { 0 = e });
+  field = field_taken_parts source.world source.infer (record { 0 = e });
   element = λ base index elem is. ap elem_parts (sym (element_taken_is source.infer (record { 0 = e }) base index elem is));
 }
 
@@ -230,18 +231,18 @@ step_children base (Some elem) parts field evaluates is =
     ap (λ rest. base ∷ rest) (sym (evaluates elem refl)) ∙ ap (λ (f : ℕ × PlaceElem). f.0 ∷ elem_parts f.1) same
 step_children base None parts field evaluates is = absurd cc
 
-field_from : (twice : Bool) (infer : InferenceResult) (e : ExprId) (found : Option Expr) (field : ℕ × PlaceElem) → if twice then None else option_and_then (part_in (field_taken infer e) (element_taken infer e)) found ≡ Some field →
+field_from : (twice : Bool) (world : HirDatabase) (infer : InferenceResult) (e : ExprId) (found : Option Expr) (field : ℕ × PlaceElem) → if twice then None else option_and_then (part_in (field_taken world infer e) (element_taken infer e)) found ≡ Some field →
     (given : Expr) × (found ≡ Some given) × (children_of given ≡ field.0 ∷ elem_parts field.1)
-field_from true infer e found field is = absurd cc
-field_from false infer e None field is = absurd cc
-field_from false infer e (Some (whole.Field base name)) field is = (whole.Field base name, refl, step_children base.0 (field_taken infer e base) [] field (field_taken_parts infer e base) is)
-field_from false infer e (Some (whole.Index base index)) field is =
+field_from true world infer e found field is = absurd cc
+field_from false world infer e None field is = absurd cc
+field_from false world infer e (Some (whole.Field base name)) field is = (whole.Field base name, refl, step_children base.0 (field_taken world infer e base) [] field (field_taken_parts world infer e base) is)
+field_from false world infer e (Some (whole.Index base index)) field is =
     (whole.Index base index, refl, step_children base.0 (element_taken infer e base index) (index.0 ∷ []) field (λ elem taken. ap elem_parts (sym (element_taken_is infer e base index elem taken))) is)
-field_from false infer e (Some _) field is = absurd cc
+field_from false world infer e (Some _) field is = absurd cc
 
 field_holds : (source : Source) (e : ℕ) (field : ℕ × PlaceElem) → assigned_field source e ≡ Some field → (given : Expr) × (expr_of source.body e ≡ Some given) × (children_of given ≡ field.0 ∷ elem_parts field.1)
 unfolding assigned_field
-field_holds source e field is = field_from (is_adjusted_twice source.infer (record { 0 = e })) source.infer (record { 0 = e }) (expr_of source.body e) field is
+field_holds source e field is = field_from (is_adjusted_twice source.infer (record { 0 = e })) source.world source.infer (record { 0 = e }) (expr_of source.body e) field is
 
 -- what the target of a compound assignment evaluates it holds
 assigned_part_is_child : (source : Source) (e : ℕ) (field : Option (ℕ × PlaceElem)) (child : ℕ) → assigned_field source e ≡ field → Contains (assigned_parts (assigned_by e field)) child →

@@ -19,6 +19,7 @@ use Rattle.world.specs.declared.items.FieldRow.{FieldRow}
 use Rattle.world.specs.declared.layout.Layout.{Layout}
 use Rattle.world.specs.Lookups.{fields_of, layout_of}
 use Rattle.source_meaning.specs.Aggregates.{HasAggregates, IsPartInside, array_length}
+use Rattle.check_instances.specs.Ready.{ready_instance}
 use Rattle.source_meaning.specs.Core.{ElementAt, PlaceElem, Part, FieldOf}
 use Rattle.source_meaning.specs.Indices.{array_element, element_offset, element_size, is_past}
 use Rattle.source_meaning.specs.Places.{elem_past, elem_type, elem_offset, field_at}
@@ -33,18 +34,13 @@ part-type world index parts = search (the_lemmas, rules)
 field-layer : (world : HirDatabase) (field : FieldId) (id : StructId) (args : GenericArgs) → elem_type world (FieldOf field) (Adt (adt.StructId id) args) ≡ field_at world field field.parent (layer.Adt (adt.StructId id) args)
 field-layer world field id args = search (the_lemmas, rules)
 
--- the type in a row of fields
-abbrev row_type : ℕ → Option (List FieldRow) → Option Ty
-row_type k fields = option_map (λ (row : FieldRow). row.ty) (option_and_then (λ (rows : List FieldRow). slice_get rows k) fields)
-
--- of a struct without arguments it is the row's
+-- it is the row's at the struct's generic arguments
 own-type : (world : HirDatabase) (field : FieldId) (base ty : Ty) (has : HasField world field base ty) → field_at world field field.parent (layer.Adt (adt.StructId has.id) has.args) ≡ Some ty
 own-type world field base ty has =
     ap (λ (parent : VariantId). field_at world field parent (layer.Adt (adt.StructId has.id) has.args)) has.parent
-    ∙ ap (λ (args : List GenericArg). if length args == 0 then row_type field.local_id (fields_of world (variant.StructId has.id)) else None) has.no_args
-    ∙ ap (row_type field.local_id) has.found
-    ∙ ap (option_map (λ (row : FieldRow). row.ty)) has.there
-    ∙ ap Some has.typed
+    ∙ ap (λ (fields : Option (List FieldRow)). option_and_then (λ (row : FieldRow). ready_instance has.args row.ty) (option_and_then (λ (rows : List FieldRow). slice_get rows field.local_id) fields)) has.found
+    ∙ ap (option_and_then (λ (row : FieldRow). ready_instance has.args row.ty)) has.there
+    ∙ has.ready
 
 -- the type of an element of an array
 pub element-type : (element : Ty) (len : Const) → array_element (Array element len) ≡ Some element

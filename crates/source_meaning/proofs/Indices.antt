@@ -123,7 +123,7 @@ module _ (source : Source) where
       by_form from.0 from.1 (form-of (findings source e) from.0 (Field base (ElementAt n index)) from.2)
     where
       by_form : (given : Expr) → expr_of source.body e ≡ Some given → IsFormOf (findings source e) given (Field base (ElementAt n index)) → (n ≡ e) × (index_of source e ≡ Some index)
-      by_form given found (a_field base' elem taken same) = absurd (no-field-element base'.0 base n index elem (field_taken_parts source.infer (record { 0 = e }) base' elem taken) same)
+      by_form given found (a_field base' elem taken same) = absurd (no-field-element base'.0 base n index elem (field_taken_parts source.world source.infer (record { 0 = e }) base' elem taken) same)
       by_form given found (an_element base' index' elem indexed taken same) =
           let both = element-from source.infer (record { 0 = e }) base' index' elem base n index taken same in
           (both.0, ap (option_and_then index_in) found ∙ indexed ∙ ap Some both.1)
@@ -131,14 +131,14 @@ module _ (source : Source) where
       by_form given found (another other) = absurd other
 
   -- and so is one that a compound assignment writes, by the expression that is its left operand
-  element-taken : (twice : Bool) (e : ExprId) (found : Option Expr) (base n index : ℕ) → if twice then None else option_and_then (part_in (field_taken source.infer e) (element_taken source.infer e)) found ≡ Some (base, ElementAt n index) →
+  element-taken : (twice : Bool) (e : ExprId) (found : Option Expr) (base n index : ℕ) → if twice then None else option_and_then (part_in (field_taken source.world source.infer e) (element_taken source.infer e)) found ≡ Some (base, ElementAt n index) →
       (n ≡ e.0) × (option_and_then index_in found ≡ Some index)
   element-taken true e found base n index is = absurd cc
   element-taken false e None base n index is = absurd cc
-  element-taken false e (Some (whole.Field base' name)) base n index is = by_step (field_taken source.infer e base') refl is
+  element-taken false e (Some (whole.Field base' name)) base n index is = by_step (field_taken source.world source.infer e base') refl is
     where
-      by_step : (step : Option PlaceElem) → field_taken source.infer e base' ≡ step → step_from base'.0 step ≡ Some (base, ElementAt n index) → (n ≡ e.0) × (None ≡ Some index)
-      by_step (Some elem) taken same = absurd (no-field-element base'.0 base n index elem (field_taken_parts source.infer e base' elem taken) (let pair : (base'.0, elem) ≡ (base, ElementAt n index) = cc in ap (λ (field : ℕ × PlaceElem). Field field.0 field.1) pair))
+      by_step : (step : Option PlaceElem) → field_taken source.world source.infer e base' ≡ step → step_from base'.0 step ≡ Some (base, ElementAt n index) → (n ≡ e.0) × (None ≡ Some index)
+      by_step (Some elem) taken same = absurd (no-field-element base'.0 base n index elem (field_taken_parts source.world source.infer e base' elem taken) (let pair : (base'.0, elem) ≡ (base, ElementAt n index) = cc in ap (λ (field : ℕ × PlaceElem). Field field.0 field.1) pair))
       by_step None taken same = absurd cc
   element-taken false e (Some (whole.Index base' index')) base n index is = by_step (element_taken source.infer e base' index') refl is
     where

@@ -30,6 +30,7 @@ use Rattle.world.specs.declared.adjust.Adjust.{Adjust}
 use Rattle.world.specs.declared.adjust.Adjust.TheVariants as adjust
 use Rattle.world.specs.declared.adjust.Adjustment.{Adjustment}
 use Rattle.world.specs.declared.body.Statement.{Statement}
+use Rattle.world.specs.declared.database.HirDatabase.{HirDatabase}
 use Rattle.world.specs.declared.expr.Expr.TheVariants as expr
 use Rattle.world.specs.declared.expr.Expr.{Expr}
 use Rattle.world.specs.declared.expr.RecordLitField.{RecordLitField}
@@ -47,7 +48,7 @@ use Rattle.world.specs.declared.pat.Pat.{Pat}
 use Rattle.world.specs.Lookups.{type_of}
 use Rattle.world.specs.Nodes.{expr_numbers, field_numbers}
 use Rattle.source_meaning.specs.Indices.{is_array, is_usize}
-use Rattle.source_meaning.specs.Structs.{StructAt, FieldSource, all_places, all_sources, places_in_order, struct_args, struct_of}
+use Rattle.source_meaning.specs.Structs.{StructAt, FieldSource, all_places, all_sources, places_in_order, ready_field, struct_args, struct_of}
 
 -- a literal with a meaning: a truth value, a whole number, or a character, by its code point
 pub data CoreLiteral : Type 0 where
@@ -155,21 +156,17 @@ binary_form to lhs rhs (binary.Assignment op) = compound_form to rhs op
 abbrev pub unary_form : ℕ → Option Operation → Option CoreExpr
 unary_form e operation = option_map (λ op. Strict op (e ∷ [])) operation
 
--- whether there are generic arguments, and none among them
-abbrev pub are_none : Option GenericArgs → Bool
-are_none (Some args) = length args.0 == 0
-are_none None = false
-
--- the step to a field, by what has it and by the type of the base: so far one of a struct without generic arguments, which the base is, and none
--- of a variant or a union
-abbrev pub step_to : (base : Option Ty) → FieldId → VariantId → Option PlaceElem
-step_to base field (variant.StructId id) = if are_none (option_and_then (struct_args id) base) then Some (FieldOf field) else None
-step_to base field _ = None
+-- the step to a field, by what has it and by the type of the base: so far one of a struct, which the base is, of a type that needn't be made at the
+-- base's generic arguments, and none of a variant or a union
+abbrev pub step_to : HirDatabase → (base : Option Ty) → FieldId → VariantId → Option PlaceElem
+step_to world base field (variant.StructId id) =
+    if is_some (option_and_then (ready_field world id field.local_id) (option_and_then (struct_args id) base)) then Some (FieldOf field) else None
+step_to world base field _ = None
 
 -- the step that a field expression takes, by the type of its base and by what inference resolved it to. The name that is written isn't looked at.
-abbrev pub field_step : (base : Option Ty) → Either FieldId TupleFieldId → Option PlaceElem
-field_step base (Left field) = step_to base field field.parent
-field_step base (Right field) = Some (Part field.index)
+abbrev pub field_step : HirDatabase → (base : Option Ty) → Either FieldId TupleFieldId → Option PlaceElem
+field_step world base (Left field) = step_to world base field field.parent
+field_step world base (Right field) = Some (Part field.index)
 
 -- A struct literal with a base, which gives the fields that aren't written. It has a meaning where each written field is one of the struct's and
 -- stands once, and so far where the struct has no generic arguments.
@@ -299,8 +296,8 @@ abbrev pub field_named : InferenceResult → ExprId → Option (Either FieldId T
 field_named infer e = lookup (is_at (ExprIdOrd.ghosts.cmp e)) infer.field_res
 
 -- the step that a field expression takes from its base
-abbrev pub field_taken : InferenceResult → (e base : ExprId) → Option PlaceElem
-field_taken infer e base = option_and_then (field_step (value_type infer base)) (field_named infer e)
+abbrev pub field_taken : HirDatabase → InferenceResult → (e base : ExprId) → Option PlaceElem
+field_taken world infer e base = option_and_then (field_step world (value_type infer base)) (field_named infer e)
 
 -- The step that an index expression takes from its base: that to an element, where the base is an array and the index a `usize`. No other index
 -- has a meaning so far; that of a type of the program is a call.

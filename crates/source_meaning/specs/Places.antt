@@ -22,6 +22,7 @@ use Rattle.source_meaning.specs.Aggregates.{array_length}
 use Rattle.source_meaning.specs.Contents.{Contents, holding}
 use Rattle.source_meaning.specs.Core.{PlaceElem, Part, FieldOf, ElementAt}
 use Rattle.source_meaning.specs.Indices.{array_element, element_offset, element_size, is_past}
+use Rattle.source_meaning.specs.Structs.{ready_field}
 use Rattle.source_meaning.specs.Source.{Source, Store, cell_type, number_held, Place, Operand, Literally, At}
 
 -- a type's variant
@@ -33,10 +34,9 @@ abbrev part_at : (index : ℕ) → TyLayer → Option Ty
 part_at index (layer.Tuple parts) = slice_get parts index
 part_at index _ = None
 
--- The type of a field of a struct without generic arguments, as its row says it: there is no parameter that an argument could stand for.
+-- the type of a field of a struct at its generic arguments: so far one that needn't be made
 abbrev pub field_at : HirDatabase → FieldId → VariantId → TyLayer → Option Ty
-field_at world field (variant.StructId id) (layer.Adt of args) =
-    if length args.0 == 0 then option_map (λ row. row.ty) (option_and_then (λ fields. slice_get fields field.local_id) (fields_of world (variant.StructId id))) else None
+field_at world field (variant.StructId id) (layer.Adt of args) = ready_field world id field.local_id args
 field_at world field parent _ = None
 
 -- the type that an element leads to from a value of a type

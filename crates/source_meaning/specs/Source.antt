@@ -53,7 +53,7 @@ assignee source p = assignee_by p.0 (pattern_expr source p.0)
 unfoldable pub assigned_field : Source → ℕ → Option (ℕ × PlaceElem)
 assigned_field source e =
     if is_adjusted_twice source.infer (record { 0 = e }) then None
-    else option_and_then (part_in (field_taken source.infer (record { 0 = e })) (element_taken source.infer (record { 0 = e }))) (expr_of source.body e)
+    else option_and_then (part_in (field_taken source.world source.infer (record { 0 = e })) (element_taken source.infer (record { 0 = e }))) (expr_of source.body e)
 
 -- what an expression is as the target of a compound assignment
 abbrev pub assigned_by : ℕ → Option (ℕ × PlaceElem) → Assigned
@@ -91,7 +91,7 @@ findings source e = record {
   names_unit = names_unit source.infer (record { 0 = e });
   names_item = names_item source.infer (record { 0 = e });
   casts = cast_operation source.infer (record { 0 = e });
-  field = field_taken source.infer (record { 0 = e });
+  field = field_taken source.world source.infer (record { 0 = e });
   element = element_taken source.infer (record { 0 = e });
   made = struct_made source.world (variant_named source e) (type_of source.infer e);
   constructed = constructed source e;

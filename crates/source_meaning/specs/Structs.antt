@@ -3,6 +3,7 @@
 use Rattle.std.specs.Prelude.{◌≡◌, ℕ, ◌==◌, Bool, true, false, suc, List, [], ◌∷◌, length, filter, position, Option, Some, None, slice_get, option_map, option_and_then, if◌then◌else◌}
 use Rattle.std.specs.Cmp.Lexicographic.{pointwise}
 use Rattle.check_instances.specs.Instances.{ty_instance}
+use Rattle.check_instances.specs.Ready.{ready_instance}
 use Rattle.types.specs.declared.ids.AdtId.TheVariants as adt
 use Rattle.types.specs.declared.ids.CallableDefId.TheVariants.{StructId as ConstructorOf}
 use Rattle.types.specs.declared.ids.ExprId.{ExprId}
@@ -120,6 +121,11 @@ all_sources id fields written =
 unfoldable pub picked : {A : Type 0} → (places : List ℕ) → List A → Option (List A)
 picked [] xs = Some []
 picked (place ∷ places) xs = option_and_then (λ x. option_map (λ others. x ∷ others) (picked places xs)) (slice_get xs place)
+
+-- the type of the field of a struct at an index, at generic arguments, where it needn't be made
+abbrev pub ready_field : HirDatabase → StructId → (index : ℕ) → GenericArgs → Option Ty
+ready_field world id index args =
+    option_and_then (λ (row : FieldRow). ready_instance args row.ty) (option_and_then (λ fields. slice_get fields index) (fields_of world (variant.StructId id)))
 
 -- the type of a field at generic arguments, if it has one there: a parameter is its argument, an alias the type that it stands for
 abbrev pub field_type : HirDatabase → GenericArgs → FieldRow → Option Ty

@@ -26,6 +26,7 @@ use Rattle.types.specs.declared.ty.Ty.TheVariants.{Adt as AdtTy, Array as ArrayT
 use Rattle.types.specs.declared.ty.Ty.{Ty, Bool as BoolTy, Int as IntTy, Uint as UintTy, Char as CharTy, Never as NeverTy}
 use Rattle.world.specs.declared.expr.Expr.TheVariants as whole
 use Rattle.world.specs.Lookups.{expr_of, fields_of, layout_of, function_row}
+use Rattle.check_instances.specs.Ready.{ready_instance}
 use Rattle.numbers.specs.Constants.{number_in}
 use Rattle.numbers.specs.declared.operator.Operator.{Operator}
 use Rattle.numbers.specs.declared.operator.Operator.TheVariants.{Add, Sub, Mul, Div, Rem, BitXor, BitAnd, BitOr, Shl, Shr, Eq, Ne, Lt, Le, Gt, Ge}
@@ -245,18 +246,17 @@ pub record HasPart (index : ℕ) (base ty : Ty) : Type 0 where
   pub is : base ≡ TupleTy parts
   pub part_has : slice_get parts index ≡ Some ty
 
--- a struct without generic arguments that has a field of a type, which is its row's
+-- a struct that has a field of a type at its generic arguments, which needn't be made
 pub record HasField (world : HirDatabase) (field : FieldId) (base ty : Ty) : Type 0 where
   pub id : StructId
   pub parent : field.parent ≡ variant.StructId id
   pub args : GenericArgs
-  pub no_args : args.0 ≡ []
   pub is : base ≡ AdtTy (adt.StructId id) args
   pub fields : List FieldRow
   pub found : fields_of world (variant.StructId id) ≡ Some fields
   pub row : FieldRow
   pub there : slice_get fields field.local_id ≡ Some row
-  pub typed : row.ty ≡ ty
+  pub ready : ready_instance args row.ty ≡ Some ty
   pub field_has : field_type world args row ≡ Some ty
 
 -- an array of elements of a type, of a length that is known
