@@ -152,6 +152,21 @@ def at_args(tree, args):
     return {name: at_args(part, args) for name, part in tree.items()}
 
 
+def holds_param(tree):
+    """Whether a type, or what it holds, is or has a generic parameter."""
+    if isinstance(tree, list):
+        return any(holds_param(part) for part in tree)
+    return isinstance(tree, dict) and ("Param" in tree or any(holds_param(part) for part in tree.values()))
+
+
+def ready_at(ty, args):
+    """A type at generic arguments, where it needn't be made: itself, where it holds no parameter, or the argument of the parameter that it is."""
+    if not holds_param(ty):
+        return ty
+    place = ty["Param"]["index"] if "Param" in ty else len(args)
+    return args[place]["Ty"] if place < len(args) and "Ty" in args[place] else None
+
+
 def parts_of(ty, structs):
     """The types of the parts of a type's values: of a tuple, of an array that isn't empty, and of a struct."""
     name, part = variant(ty)
@@ -428,11 +443,14 @@ class Reading:
         self.named(self.rows["value_res"], e, part)
 
     def own_field(self, e, part):
-        """A part of a tuple, or a field of the struct that the base is by its type, without generic arguments."""
+        """A part of a tuple, or a field of the struct that the base is by its type, of a type that needn't be made at its generic arguments."""
         found = self.rows["field_res"].get(e, {})
         if "Right" not in found:
-            parent = found.get("Left", {}).get("parent", {})
-            if "StructId" not in parent or struct_in(self.value_type(part["expr"])) != (parent["StructId"], []):
+            parent, made = found.get("Left", {}).get("parent", {}), struct_in(self.value_type(part["expr"]))
+            if made is None or parent != {"StructId": made[0]}:
+                raise Refusal(NOT_BUILT)
+            row = self.world["structs"][made[0]]["fields"][found["Left"]["local_id"]]
+            if ready_at(row["ty"], made[1]) is None:
                 raise Refusal(NOT_BUILT)
         self.place(part["expr"])
 
@@ -904,7 +922,7 @@ class Run:
         """A part of a tuple or a field of a struct: its base's place, and which of its bytes."""
         whole = self.place_type(frame, base)
         types, number = ([], 0) if whole is None else self.step(found, whole)
-        if number >= len(types):
+        if number >= len(types) or types[number] is None:
             return Part(base, None, 0, None)
         layouts = [self.layouts.get(key(ty)) for ty in (whole, types[number])]
         if None in layouts or number >= len(layouts[0].get("offsets", [])):
@@ -919,9 +937,9 @@ class Run:
         name, part = variant(whole)
         if "Right" in found:
             return (part if name == "Tuple" else []), found["Right"]["index"]
-        field, has_fields = found["Left"], name == "Adt" and not part[1]
-        rows = self.world["structs"][field["parent"]["StructId"]].get("fields", []) if has_fields else []
-        return [row["ty"] for row in rows], field["local_id"]
+        field = found["Left"]
+        rows = self.world["structs"][field["parent"]["StructId"]].get("fields", []) if name == "Adt" else []
+        return [ready_at(row["ty"], part[1]) for row in rows], field["local_id"]
 
     def place_type(self, frame, place):
         """The type of a place, or None where its way leads to nothing."""
