@@ -152,16 +152,16 @@ def at_args(tree, args):
     return {name: at_args(part, args) for name, part in tree.items()}
 
 
-def holds_param(tree):
-    """Whether a type, or what it holds, is or has a generic parameter."""
+def is_concrete(tree):
+    """Whether a type, or what it holds, neither is nor has a generic parameter or an alias."""
     if isinstance(tree, list):
-        return any(holds_param(part) for part in tree)
-    return isinstance(tree, dict) and ("Param" in tree or any(holds_param(part) for part in tree.values()))
+        return all(is_concrete(part) for part in tree)
+    return not isinstance(tree, dict) or not {"Param", "Alias"} & set(tree) and all(is_concrete(part) for part in tree.values())
 
 
 def ready_at(ty, args):
-    """A type at generic arguments, where it needn't be made: itself, where it holds no parameter, or the argument of the parameter that it is."""
-    if not holds_param(ty):
+    """A type at generic arguments, where it needn't be made: itself, where it holds no parameter and no alias, or the argument of the parameter that it is."""
+    if is_concrete(ty):
         return ty
     place = ty["Param"]["index"] if "Param" in ty else len(args)
     return args[place]["Ty"] if place < len(args) and "Ty" in args[place] else None
@@ -469,15 +469,16 @@ class Reading:
 
     def own_recordlit(self, e, part):
         """A struct literal. Without a base it writes as many fields as the struct has, each of these among them. With one it writes some
-        of them, each once, and its own type is a struct without generic arguments."""
+        of them, each once, and no type of another has to be made at the generic arguments of its own type."""
         found, made = self.rows["variant_res"].get(e, {}), struct_in(self.body.infer["expr_types"][e])
         if made is None or found != {"StructId": made[0]}:
             raise Refusal(NOT_BUILT)
-        names = [one["name"] for one in self.world["structs"][made[0]].get("fields", [])]
-        written = [one["name"] for one in part.get("fields", [])]
+        rows = self.world["structs"][made[0]].get("fields", [])
+        names, written = [row["name"] for row in rows], [one["name"] for one in part.get("fields", [])]
         base = base_of(part)
         if base is not None:
-            if made[1] or sum(name in written for name in names) != len(written):
+            others_ready = all(row["name"] in written or ready_at(row["ty"], made[1]) is not None for row in rows)
+            if not others_ready or sum(name in written for name in names) != len(written):
                 raise Refusal(NOT_BUILT)
             self.place(base)
         elif part["spread"] != "None" or len(names) != len(written) or not set(names) <= set(written):

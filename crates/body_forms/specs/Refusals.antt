@@ -54,9 +54,9 @@ pub record IsUnbuiltExpr (source : Source) (e : ℕ) : Type 0 where
 -- An expression of a form that isn't built yet, whatever its parts are: one that is adjusted otherwise than by `NeverToAny`
 -- alone, whatever its form is, where that is looked at, as it isn't of the base of an index, and one to which `core_of` gives no form, other than an incomplete one: `*`, a literal that is neither
 -- a truth value nor a whole number nor a character, a cast from or to another type than an integer, `bool` or `char`, a path to an
--- associated item or a variant, or to a struct that isn't its type, a field of a struct with generic arguments, of a variant or of a union, or one that isn't resolved, an index of another type than `usize` or of what is no array, a struct literal
+-- associated item or a variant, or to a struct that isn't its type, a field of a variant, of a union, or of a struct where its type would have to be made at the struct's generic arguments, or one that isn't resolved, an index of another type than `usize` or of what is no array, a struct literal
 -- that isn't resolved to the struct that its type is, or doesn't give each field of it once; with a base, one that writes a field twice or writes
--- what is no field of it, or is of a struct with generic arguments; one with `..` and no base; a call of a constructor with more or fewer arguments
+-- what is no field of it, or leaves out one whose type would have to be made; one with `..` and no base; a call of a constructor with more or fewer arguments
 -- than its struct has fields, unless it is listed as one that doesn't return; a closure, a `match` and so on.
 abbrev pub IsUnbuiltForm : Source → ℕ → Type 0
 IsUnbuiltForm source e = (is_adjusted source e ≡ true) ⊎ IsUnbuiltExpr source e

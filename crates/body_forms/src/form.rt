@@ -17,8 +17,8 @@ use crate::context::Context;
 use crate::inferred::{diverges, is_coercion, is_conversion, step_target, value_type};
 use crate::literal::LiteralValue;
 use crate::structs::{
-    FieldExprs, StructAt, StructLiteral, StructValue, constructed, gives_all_fields,
-    gives_known_fields, names_unit, struct_args, struct_made,
+    FieldExprs, StructAt, StructLiteral, StructValue, are_others_ready, constructed,
+    gives_all_fields, gives_known_fields, names_unit, struct_args, struct_made,
 };
 use check_instances::ready_instance;
 use either::Either;
@@ -245,12 +245,12 @@ fn cast_form<'a>(context: &Context<'_>, cast: ExprId, operand: ExprId) -> Form<'
     }
 }
 
-/// The form of a struct literal with a base: so far one of a struct without generic arguments alone.
+/// The form of a struct literal with a base: so far one where no type of a field that it leaves out has to be made at the struct's generic arguments.
 fn update_form<'a>(base: ExprId, literal: StructLiteral<'a>) -> Form<'a>
     ensures core { core_form result ≡ update_form base.0 (core_struct literal.entry.made) literal.entry.written.now }
     ensures cause { (e : Expr) → (IsIncomplete e → ⊥) → IsCause e result }
 {
-    if literal.made.args.0.len() != 0 {
+    if !are_others_ready(literal) {
         return Form::Unbuilt;
     }
     if gives_known_fields(literal) {

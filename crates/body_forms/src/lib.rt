@@ -21,7 +21,7 @@ pub use inferred::{
     array_of, binding_ty, diverges, is_copy, never_type, node_ty, own_ty, value_type,
 };
 pub use literal::{LiteralValue, lower_literal};
-pub use operation::{Several, Single, copied, deciding, kind_of, made_of};
+pub use operation::{Several, Single, copied, kind_of, made_of};
 pub use structs::{
     FieldExprs, FieldSource, StructAt, StructLiteral, StructValue, field_sources, given_exprs,
     struct_value, written_exprs,

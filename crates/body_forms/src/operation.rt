@@ -5,7 +5,6 @@ ghost use Rattle.source_meaning.specs.Built.{IsBuiltStrict};
 ghost use Rattle.mir.specs.declared.operand.OperandKind.TheVariants.{Copy};
 ghost use Rattle.mir.specs.declared.span.MirSpan.TheVariants as span;
 ghost use Rattle.source_meaning.specs.Core as expr;
-ghost use Rattle.source_meaning.specs.Meaning.{deciding_byte};
 ghost use Rattle.source_meaning.specs.Source.{node};
 ghost use Rattle.world.specs.Checked.{IsCheckedBody};
 ghost use Rattle.world.specs.Nodes.{expr_numbers};
@@ -19,7 +18,7 @@ use crate::unbuilt::type_error;
 use mir::{
     AggregateKind, CastKind, MirLowerError, MirSpan, Operand, OperandKind, Place, Rvalue, UnOp,
 };
-use world::{ExprId, LogicOp, TryClone};
+use world::{ExprId, TryClone};
 
 /// What is made of one operand.
 #[derive(Clone, Copy)]
@@ -48,16 +47,6 @@ pub fn copied(place: Place, e: ExprId) -> Operand
     Operand {
         kind: OperandKind::Copy(place),
         span: Some(MirSpan::ExprId(e)),
-    }
-}
-
-/// The byte of a left operand at which the right one isn't evaluated.
-pub fn deciding(op: LogicOp) -> u128
-    ensures { result ≡ deciding_byte op }
-{
-    match op {
-        LogicOp::And => 0,
-        LogicOp::Or => 1,
     }
 }
 

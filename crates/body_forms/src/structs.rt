@@ -6,7 +6,7 @@ ghost use Rattle.std.specs.Option.{option_and_then, option_copied, option_map};
 ghost use Rattle.source_meaning.specs.Source.{Source, constructed, named_by, variant_named};
 ghost use Rattle.source_meaning.specs.Core as expr;
 ghost use Rattle.source_meaning.specs.Core.{are_any, names_unit, struct_named};
-ghost use Rattle.source_meaning.specs.Structs.{all_places, all_sources, field_sources, place_named, picked, places_named, source_by, struct_args, struct_made, struct_of, struct_with};
+ghost use Rattle.source_meaning.specs.Structs.{all_places, all_sources, are_others_ready, field_sources, picked, place_named, places_named, source_by, struct_args, struct_made, struct_of, struct_with};
 ghost use Rattle.types.specs.declared.ids.VariantId.TheVariants as variant;
 ghost use Rattle.world.specs.Lookups.{type_of};
 ghost use Rattle.world.specs.Nodes.{expr_numbers, field_numbers};
@@ -18,6 +18,7 @@ ghost use Rattle.body_forms.specs.Structs.{arranged};
 use crate::call::must_not_return;
 use crate::context::Context;
 use crate::inferred::own_type;
+use check_instances::ready_instance;
 use mir::{AggregateKind, Operand, Rvalue};
 use std::alloc::Global;
 use world::{
@@ -217,6 +218,18 @@ pub(crate) fn gives_known_fields(literal: StructLiteral<'_>) -> bool
 {
     let count = count_written(literal.made.fields.as_slice(), literal.written.as_slice());
     count as u64 == literal.written.len()
+}
+
+/// Whether the types of the fields that a literal with a base doesn't write needn't be made at its struct's generic arguments.
+pub(crate) fn are_others_ready(literal: StructLiteral<'_>) -> bool
+    ensures { result ≡ are_others_ready literal.entry.made.args.now literal.entry.made.fields.now literal.entry.written.now }
+{
+    let fields = literal.made.fields.as_slice();
+    let written = literal.written.as_slice();
+    fields.iter().all(|field| {
+        place_named(&field.name, written).is_some()
+            || ready_instance(literal.made.args, &field.ty).is_some()
+    })
 }
 
 /// What gives the field of a struct at an index.

@@ -2,6 +2,7 @@
 
 ghost use Rattle.std.specs.Prelude.{◌≡◌, IfOk, IfErr};
 ghost use Rattle.mir.specs.declared.errors.MirLowerError.TheVariants as refusal;
+ghost use Rattle.source_meaning.specs.Meaning.{deciding_byte};
 ghost use Rattle.source_meaning.specs.Source.{Source};
 ghost use Rattle.mir_lower.specs.Branches.{IsReserved, IsForked, HasGoneOn};
 ghost use Rattle.body_forms.specs.Contexts.{source_of};
@@ -14,13 +15,23 @@ use mir::{
     TerminatorKind,
 };
 use mir_graph::Graph;
-use world::ExprId;
+use world::{ExprId, LogicOp};
 
 /// The reserved blocks of code that parts: where the second branch begins, and where both join.
 #[derive(Clone, Copy)]
 pub(crate) struct Branches {
     pub other: BasicBlockId,
     pub join: BasicBlockId,
+}
+
+/// The byte of a left operand at which the right one isn't evaluated.
+pub(crate) fn deciding(op: LogicOp) -> u128
+    ensures { result ≡ deciding_byte op }
+{
+    match op {
+        LogicOp::And => 0,
+        LogicOp::Or => 1,
+    }
 }
 
 /// Ends the current block by a test whether an operand is a number, and opens the block for the case that it is.

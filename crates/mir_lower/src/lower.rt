@@ -23,7 +23,7 @@ ghost use Rattle.mir_lower.specs.Refusals.{RefusesAt};
 ghost use Rattle.std.specs.Prelude.{All, Contains, IfSome, IsSome, map};
 ghost use Rattle.world.specs.Nodes.{expr_numbers, optional};
 
-use crate::branch::{fork, go_on};
+use crate::branch::{deciding, fork, go_on};
 use crate::call::call;
 use crate::jump::{enter_loop, jump, leave_loop, return_from, target_of_jump};
 use crate::leave::leave_scope;
@@ -35,9 +35,9 @@ use crate::simple::{literal_into, lower_continue, name_into, names_place};
 use crate::update::field_operands;
 use body_forms::{
     Assigned, Assignee, Context, FieldStep, Form, PlaceForm, Several, Single, StructLiteral,
-    StructValue, copied, deciding, diverges, field_sources, form_at, form_not_built, given_exprs,
-    kind_of, literal_at, lower_callee, lower_literal, made_of, method_args, part_elem,
-    place_form_at, struct_value, written_exprs,
+    StructValue, copied, diverges, field_sources, form_at, form_not_built, given_exprs, kind_of,
+    literal_at, lower_callee, lower_literal, made_of, method_args, part_elem, place_form_at,
+    struct_value, written_exprs,
 };
 use either::Either;
 use mir::{

@@ -30,7 +30,7 @@ use Rattle.types.specs.declared.operators.BinaryOp.TheVariants as binary
 use Rattle.numbers.specs.Operators.{of_arith, of_compare}
 use Rattle.source_meaning.specs.Core.{CoreExpr, Findings, Operation, MakeTuple, MakeArray, Repeat, MakeStruct, PlaceElem, ElementAt, FieldOf, Part, Literal, Path, UnitStruct, Field, Strict, Update, Logic, If, Assign, Compound, Block, Labelled, Loop, Break, Continue, Return, Call, core_literal, unary_operation, unary_form, eager_form, binary_form, call_form, path_form, record_form, step_from, core_of, element_taken, expr_in, field_named, field_step, field_taken, is_adjusted_twice, is_dereferenced_pattern, part_in, step_to, value_type}
 use Rattle.source_meaning.specs.Indices.{is_array, is_usize}
-use Rattle.source_meaning.specs.Structs.{StructAt, all_places, all_sources, places_in_order, ready_field, struct_args}
+use Rattle.source_meaning.specs.Structs.{StructAt, all_places, all_sources, are_others_ready, places_in_order, ready_field, struct_args}
 use Rattle.source_meaning.specs.Source.{Source, assigned_by, assigned_field, assignee_by, findings, is_adjusted, node, pattern_expr}
 use Rattle.source_meaning.specs.Steps.{parts_of, assigned_parts, assignee_parts, statement_parts}
 use Rattle.source_meaning.proofs.Parts.{elem_parts, first_is_contained, nothing_is_contained, rest_is_contained, among_more, strict_parts, update_parts, if_parts, compound_parts, block_parts, tail_part, call_parts}
@@ -110,7 +110,7 @@ record_part (Some made) written spread.None core is child within =
     let from = mapped (λ places. Strict (MakeStruct made.id made.args places) (field_numbers written)) (all_places made.fields written) core is in
     Contains-append_left (field_numbers written) [] child
     (subst (λ parts. Contains parts child) (ap (λ c. parts_of (Some c)) (sym from.2) ∙ strict_parts (MakeStruct made.id made.args from.0) (field_numbers written)) within)
-record_part (Some made) written (spread.Expr base) core is child within = update_part made written base.0 (length made.args.0 == 0) core is child within
+record_part (Some made) written (spread.Expr base) core is child within = update_part made written base.0 (are_others_ready made.args made.fields written) core is child within
 record_part (Some made) written spread.FieldDefaults core is child within = absurd cc
 record_part None written base core is child within = absurd cc
 

@@ -16,7 +16,7 @@ use Rattle.world.specs.Nodes.{expr_numbers, field_numbers}
 use Rattle.numbers.specs.declared.operator.Operator.{Operator}
 use Rattle.numbers.specs.Operators.{of_arith}
 use Rattle.source_meaning.specs.Core.{ByField, CoreExpr, CoreLiteral, ElementAt, FieldOf, Findings, Operation, MakeStruct, Part, PlaceElem, Literal, Field, Strict, Update, Compound, binary_form, call_form, core_literal, core_of, element_taken, field_taken, is_adjusted_twice, part_in, path_form, record_form, step_from, unary_form, unary_operation}
-use Rattle.source_meaning.specs.Structs.{StructAt, FieldSource, all_places, all_sources, places_in_order}
+use Rattle.source_meaning.specs.Structs.{StructAt, FieldSource, all_places, all_sources, are_others_ready, places_in_order}
 use Rattle.source_meaning.specs.Source.{Source, IndexOf, assigned, assigned_by, assigned_field, cell_type, findings, index_in, index_of, is_adjusted, node, node_type}
 use Rattle.source_meaning.specs.Valid.{HasPlainIndex}
 use Rattle.source_meaning.proofs.Core.{element_taken_is, field_taken_parts, mapped, node_from}
@@ -60,7 +60,7 @@ struct-other made written None = tt
 
 record-other : (made : Option StructAt) (written : List RecordLitField) (base : RecordSpread) → IsOtherForm (record_form made written base)
 record-other (Some made) written spread.None = struct-other made written (all_places made.fields written)
-record-other (Some made) written (spread.Expr base) = update-other made written base.0 (length made.args.0 == 0) (all_sources made.id made.fields written)
+record-other (Some made) written (spread.Expr base) = update-other made written base.0 (are_others_ready made.args made.fields written) (all_sources made.id made.fields written)
 record-other (Some made) written spread.FieldDefaults = tt
 record-other None written base = tt
 

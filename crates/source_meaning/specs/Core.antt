@@ -48,7 +48,7 @@ use Rattle.world.specs.declared.pat.Pat.{Pat}
 use Rattle.world.specs.Lookups.{type_of}
 use Rattle.world.specs.Nodes.{expr_numbers, field_numbers}
 use Rattle.source_meaning.specs.Indices.{is_array, is_usize}
-use Rattle.source_meaning.specs.Structs.{StructAt, FieldSource, all_places, all_sources, places_in_order, ready_field, struct_args, struct_of}
+use Rattle.source_meaning.specs.Structs.{StructAt, FieldSource, all_places, all_sources, are_others_ready, places_in_order, ready_field, struct_args, struct_of}
 
 -- a literal with a meaning: a truth value, a whole number, or a character, by its code point
 pub data CoreLiteral : Type 0 where
@@ -169,10 +169,10 @@ field_step world base (Left field) = step_to world base field field.parent
 field_step world base (Right field) = Some (Part field.index)
 
 -- A struct literal with a base, which gives the fields that aren't written. It has a meaning where each written field is one of the struct's and
--- stands once, and so far where the struct has no generic arguments.
+-- stands once, and so far where the type of each other field needn't be made at the struct's generic arguments.
 abbrev pub update_form : (base : ℕ) → StructAt → List RecordLitField → Option CoreExpr
 update_form base made written =
-    if length made.args.0 == 0 then option_map (λ sources. Update base made.id made.args sources (field_numbers written)) (all_sources made.id made.fields written) else None
+    if are_others_ready made.args made.fields written then option_map (λ sources. Update base made.id made.args sources (field_numbers written)) (all_sources made.id made.fields written) else None
 
 -- A struct literal, by the struct that it makes and the fields that are written: without a base, each field of the struct has to be written
 -- once. One of a variant or a union has no meaning so far.

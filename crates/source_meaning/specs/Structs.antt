@@ -1,7 +1,9 @@
 -- Structs: which one a struct literal or a call of a constructor makes a value of, which written field, which field of a base or which argument gives
 -- each of its fields, and of which types these are.
-use Rattle.std.specs.Prelude.{◌≡◌, ℕ, ◌==◌, Bool, true, false, suc, List, [], ◌∷◌, length, filter, position, Option, Some, None, slice_get, option_map, option_and_then, if◌then◌else◌}
+use Rattle.std.specs.Prelude.{◌≡◌, ℕ, ◌==◌, Bool, true, false, suc, List, [], ◌∷◌, length, filter, position, ◌||◌, Option, Some, None, slice_get, option_map, option_and_then, if◌then◌else◌}
 use Rattle.std.specs.Cmp.Lexicographic.{pointwise}
+use Rattle.std.specs.List.{list_all}
+use Rattle.std.specs.Option.{is_some}
 use Rattle.check_instances.specs.Instances.{ty_instance}
 use Rattle.check_instances.specs.Ready.{ready_instance}
 use Rattle.types.specs.declared.ids.AdtId.TheVariants as adt
@@ -81,6 +83,10 @@ places_in_order fields args = if length fields == length args then Some (places_
 -- the place, among the written fields of a literal, of the first one with a name
 abbrev pub place_named : (name : List ℕ) → List RecordLitField → Option ℕ
 place_named name written = position (λ field. pointwise ◌==◌ field.name name) written
+
+-- whether each field of a struct that isn't written has a type that needn't be made at generic arguments
+abbrev pub are_others_ready : GenericArgs → List FieldRow → List RecordLitField → Bool
+are_others_ready args fields written = list_all (λ (field : FieldRow). is_some (place_named field.name written) || is_some (ready_instance args field.ty)) fields
 
 -- the places of the written fields that give the fields of a struct, in the order of these
 unfoldable pub places_named : List FieldRow → List RecordLitField → Option (List ℕ)
