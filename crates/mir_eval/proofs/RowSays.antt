@@ -40,11 +40,19 @@ use Rattle.mir_rows.specs.declared.spots.Spot.{Spot}
 use Rattle.mir_rows.specs.declared.spots.Spot.TheVariants as at
 use Rattle.mir_rows.specs.Rows.{AreOperands, IsCast, IsSource, IsWay, Leads, Says, constant_in, short_bytes}
 use Rattle.mir_rows.specs.Spots.{IsSpot, LiesAt, spot_cell}
-use Rattle.mir_eval.specs.declared.faults.Fault.{Fault}
 use Rattle.mir_eval.specs.Frames.{code_in}
-use Rattle.mir_eval.specs.Steps.{left_with}
 use Rattle.mir_eval.specs.Reads.{Converts, HasBytes, HoldsAt, LiesIn, Makes}
 use Rattle.mir_eval.proofs.Operated.{cast-made, operated_if_made}
+
+-- what follows from what was done
+pub if-some : {A P Q : Type 0} (result : Option A) → (P → Q) → IfSome result (λ done. P) → IfSome result (λ done. Q)
+if-some None follows is = tt
+if-some (Some done) follows is = follows is
+
+-- the pieces that were read
+pub some_read : (view : Option (List (List ℕ))) (bytes : Option (List ℕ)) → option_map concat view ≡ bytes → IfSome view (λ pieces. bytes ≡ Some (concat pieces))
+some_read None bytes are = tt
+some_read (Some pieces) bytes are = sym are
 
 -- a list of one byte
 pub one-byte : (bytes : List ℕ) → length bytes ≡ 1 → bytes ≡ slice_index_or bytes 0 0 ∷ []
@@ -95,12 +103,12 @@ module _ (frame : Frame) (memory : Memory) where
   pub lies-at : (given : Source) (spot : Spot) → given ≡ source.At spot → (kind : OperandKind) → IsSource (code_in frame) given kind → LiesAt (code_in frame) spot kind
   lies-at given spot is kind said = subst (λ (s : Source). IsSource (code_in frame) s kind) is said
 
-  pub view-at : (given : Source) (spot : Spot) (cell : Interval) (view : Option (List (List ℕ))) → ((kind : OperandKind) → IsSource (code_in frame) given kind → LiesAt (code_in frame) spot kind) → LiesIn frame memory spot cell → option_map concat view ≡ cell_bytes memory cell →
+  pub view-at : (given : Source) (spot : Spot) (cell : Interval) (view : Option (List (List ℕ))) → ((kind : OperandKind) → IsSource (code_in frame) given kind → LiesAt (code_in frame) spot kind) → LiesIn frame memory spot cell → IfSome view (λ pieces. cell_bytes memory cell ≡ Some (concat pieces)) →
       IfSome view (λ pieces. (kind : OperandKind) → IsSource (code_in frame) given kind → HasBytes frame memory kind (concat pieces))
   view-at given spot cell None is lies are = tt
   view-at given spot cell (Some pieces) is lies are =
       λ kind said. record {
-        has = spot-bytes spot kind (is kind said) ∙ ap (λ (found : Option Interval). option_and_then (cell_bytes memory) found) lies.there ∙ sym are;
+        has = spot-bytes spot kind (is kind said) ∙ ap (λ (found : Option Interval). option_and_then (cell_bytes memory) found) lies.there ∙ are;
         within = spot-within spot cell lies kind (is kind said);
       }
 
@@ -148,31 +156,31 @@ module _ (frame : Frame) (memory : Memory) where
       }
 
   module _ (out : Result Memory MirEvalError) (to : Spot) (cell : Interval) (lies : LiesIn frame memory to cell) where
-    combines : (op : Operator) (kind other_kind : Kind) (left right : Source) (m : Made) →
+    combines : (op : Operator) (kind other_kind : Kind) (guess : ℕ) (left right : Source) (m : Made) →
         ((one other : OperandKind) → AreOperands (code_in frame) kind other_kind left right one other → Makes frame memory op one other (made_bytes m)) → out ≡ copied memory (Some cell) (Ok (made_bytes m)) →
-        (statement : StatementKind) → Says (code_in frame) (action.Combine op kind other_kind to left right) statement → out ≡ after_statement frame memory statement
+        (statement : StatementKind) → Says (code_in frame) (action.Combine op kind other_kind guess to left right) statement → out ≡ after_statement frame memory statement
     unfolding rvalue_bytes reads_out
-    combines op kind other_kind left right m makes is (Assign place (CheckedBinaryOp operator one other)) says =
+    combines op kind other_kind guess left right m makes is (Assign place (CheckedBinaryOp operator one other)) says =
         is
         ∙ ap (λ (found : Option Interval). copied memory found (Ok (made_bytes m))) (sym (says.0.lies (number_held memory frame.cells) frame.cells ∙ lies.there))
         ∙ ap (copied memory (cell_now frame memory place))
         (sym (makes one.kind other.kind says.2).makes ∙ ap (λ (o : Operator). operated o (operand_type frame.program.world frame.body one.kind) (operand_type frame.program.world frame.body other.kind) (operand_bytes frame memory one.kind) (operand_bytes frame memory other.kind)) (sym says.1))
         ∙ assigned-within place to cell lies (CheckedBinaryOp operator one other) says.0 (makes one.kind other.kind says.2).within
-    combines op kind other_kind left right m makes is (Assign place (Use given)) says = absurd says
-    combines op kind other_kind left right m makes is (Assign place (UnaryOp operator given)) says = absurd says
-    combines op kind other_kind left right m makes is (Assign place (Cast cast given ty)) says = absurd says
-    combines op kind other_kind left right m makes is (Assign place (Repeat given len)) says = absurd says
-    combines op kind other_kind left right m makes is (Assign place (Aggregate made parts)) says = absurd says
-    combines op kind other_kind left right m makes is (FakeRead place) says = absurd says
-    combines op kind other_kind left right m makes is (StorageLive local) says = absurd says
-    combines op kind other_kind left right m makes is (StorageDead local) says = absurd says
+    combines op kind other_kind guess left right m makes is (Assign place (Use given)) says = absurd says
+    combines op kind other_kind guess left right m makes is (Assign place (UnaryOp operator given)) says = absurd says
+    combines op kind other_kind guess left right m makes is (Assign place (Cast cast given ty)) says = absurd says
+    combines op kind other_kind guess left right m makes is (Assign place (Repeat given len)) says = absurd says
+    combines op kind other_kind guess left right m makes is (Assign place (Aggregate made parts)) says = absurd says
+    combines op kind other_kind guess left right m makes is (FakeRead place) says = absurd says
+    combines op kind other_kind guess left right m makes is (StorageLive local) says = absurd says
+    combines op kind other_kind guess left right m makes is (StorageDead local) says = absurd says
 
     -- a statement that assigns what an operator makes
-    pub does-combine : (given : Action) (op : Operator) (kind other_kind : Kind) (left right : Source) (m : Made) → given ≡ action.Combine op kind other_kind to left right →
+    pub does-combine : (given : Action) (op : Operator) (kind other_kind : Kind) (guess : ℕ) (left right : Source) (m : Made) → given ≡ action.Combine op kind other_kind guess to left right →
         ((one other : OperandKind) → AreOperands (code_in frame) kind other_kind left right one other → Makes frame memory op one other (made_bytes m)) → out ≡ copied memory (Some cell) (Ok (made_bytes m)) →
         (statement : StatementKind) → Says (code_in frame) given statement → out ≡ after_statement frame memory statement
-    does-combine given op kind other_kind left right m same makes is statement says =
-        combines op kind other_kind left right m makes is statement (subst (λ (a : Action). Says (code_in frame) a statement) same says)
+    does-combine given op kind other_kind guess left right m same makes is statement says =
+        combines op kind other_kind guess left right m makes is statement (subst (λ (a : Action). Says (code_in frame) a statement) same says)
 
     -- or what a cast makes
     casts : (kind : Kind) (size : ℕ) (from : Source) (m : Made) →
@@ -242,13 +250,6 @@ module _ (frame : Frame) (memory : Memory) where
     pub does-put : (given : Action) (short : Short) → given ≡ action.Put to short → out ≡ copied memory (Some cell) (Ok (short_bytes short)) →
         (statement : StatementKind) → Says (code_in frame) given statement → out ≡ after_statement frame memory statement
     does-put given short same does statement says = puts-short short does statement (subst (λ (a : Action). Says (code_in frame) a statement) same says)
-
-  -- the same where a copy may not have been done
-  pub copy-done : (after : Memory) (result : Option (Result (Unit {0}) Fault)) (to : Spot) (cell : Interval) → LiesIn frame memory to cell → (given : Action) (from : Spot) (there : Interval) → LiesIn frame memory from there → given ≡ action.Copy to from →
-      IfSome result (λ done. left_with after done ≡ copied memory (Some cell) (read (cell_bytes memory there))) →
-      IfSome result (λ done. (statement : StatementKind) → Says (code_in frame) given statement → left_with after done ≡ after_statement frame memory statement)
-  copy-done after None to cell lies given from there stands same does = tt
-  copy-done after (Some done) to cell lies given from there stands same does = does-copy (left_with after done) to cell lies given from there stands same does
 
   -- a terminator of each kind that leads to one block
   goto-kind : (block : BasicBlockId) (terminator : Terminator) (kind : TerminatorKind) → Leads (code_in frame) (way.Goto block) kind → terminated frame memory (Some (record terminator { kind = kind })) ≡ GoesTo frame memory block.0

@@ -10,10 +10,9 @@ ghost use Rattle.mir_eval.specs.Frames.{code_in, frame_of};
 ghost use Rattle.mir_eval.specs.Reads.{HoldsAt};
 ghost use Rattle.mir_eval.specs.Steps.{next_of, Halts, HaltsAtCall, OrNoMemory};
 
-use crate::cells::read;
 use crate::faults::Fault;
 use crate::frames::StackFrame;
-use crate::rows::{find, run_rows};
+use crate::rows::{find, run_rows, view};
 use crate::steps::{Exit, Halt, Stop, terminate};
 use mir::{BasicBlockId, Terminator};
 use mir_mem::{Memory, whole};
@@ -22,14 +21,14 @@ use mir_rows::{BlockRows, Spot, Way};
 /// The one byte of the value at a spot, where it has one that can be read, and is within bounds.
 #[inline(always)]
 fn byte_at<M: Memory, const FAR: bool>(
-    frame: StackFrame<'_, '_>,
+    frame: &StackFrame<'_, '_>,
     memory: &M,
     spot: &Spot,
 ) -> Option<u8>
-    ensures { IfSome result (λ byte. HoldsAt (frame_of frame.entry) (M.areas memory.now) spot.now (byte ∷ [])) }
+    ensures { IfSome result (λ byte. HoldsAt (frame_of frame.now) (M.areas memory.now) spot.now (byte ∷ [])) }
 {
     let cell = find::<M, FAR>(frame, memory, spot)?;
-    let view = read(memory, cell)?;
+    let view = view::<M, FAR, 1>(memory, cell)?;
     let bytes = whole(&view)?;
     if bytes.len() == 1 {
         Some(bytes[0])
@@ -40,27 +39,16 @@ fn byte_at<M: Memory, const FAR: bool>(
 
 /// The same, out of the loop over blocks.
 #[inline(never)]
-fn far_byte<M: Memory>(frame: StackFrame<'_, '_>, memory: &M, spot: &Spot) -> Option<u8>
-    ensures { IfSome result (λ byte. HoldsAt (frame_of frame.entry) (M.areas memory.now) spot.now (byte ∷ [])) }
+fn far_byte<M: Memory>(frame: &StackFrame<'_, '_>, memory: &M, spot: &Spot) -> Option<u8>
+    ensures { IfSome result (λ byte. HoldsAt (frame_of frame.now) (M.areas memory.now) spot.now (byte ∷ [])) }
 {
     byte_at::<M, true>(frame, memory, spot)
 }
 
-/// The same, where the loop over blocks has code of its own for what lies behind no indices.
-#[inline(always)]
-fn byte<M: Memory>(frame: StackFrame<'_, '_>, memory: &M, spot: &Spot) -> Option<u8>
-    ensures { IfSome result (λ byte. HoldsAt (frame_of frame.entry) (M.areas memory.now) spot.now (byte ∷ [])) }
-{
-    match byte_at::<M, false>(frame, memory, spot) {
-        Some(byte) => Some(byte),
-        None => far_byte(frame, memory, spot),
-    }
-}
-
 /// How a block ends, by its way, where that says it.
 #[inline(always)]
-fn follow<M: Memory>(frame: StackFrame<'_, '_>, memory: &M, way: &Way) -> Option<BasicBlockId>
-    ensures { IfSome result (λ block. (terminator : Option Terminator) → IsWay (code_in (frame_of frame.entry)) way.now terminator → terminated (frame_of frame.entry) (M.areas memory.now) terminator ≡ GoesTo (frame_of frame.entry) (M.areas memory.now) block.0) }
+fn follow<M: Memory>(frame: &StackFrame<'_, '_>, memory: &M, way: &Way) -> Option<BasicBlockId>
+    ensures { IfSome result (λ block. (terminator : Option Terminator) → IsWay (code_in (frame_of frame.now)) way.now terminator → terminated (frame_of frame.now) (M.areas memory.now) terminator ≡ GoesTo (frame_of frame.now) (M.areas memory.now) block.0) }
 {
     match way {
         Way::Goto(block) => Some(*block),
@@ -70,7 +58,10 @@ fn follow<M: Memory>(frame: StackFrame<'_, '_>, memory: &M, way: &Way) -> Option
             then,
             otherwise,
         } => {
-            let byte = byte(frame, memory, spot)?;
+            let byte = match byte_at::<M, false>(frame, memory, spot) {
+                Some(byte) => byte,
+                None => far_byte(frame, memory, spot)?,
+            };
             Some(if byte == *value { *then } else { *otherwise })
         }
         Way::Other => None,
@@ -80,11 +71,11 @@ fn follow<M: Memory>(frame: StackFrame<'_, '_>, memory: &M, way: &Way) -> Option
 /// What a terminator does, as the loop over blocks calls for it: what the call needs is made ready here.
 #[inline(always)]
 fn leave_block<M: Memory>(
-    frame: StackFrame<'_, '_>,
+    frame: &StackFrame<'_, '_>,
     memory: &M,
     terminator: &Option<Terminator>,
 ) -> Result<Exit, Fault>
-    ensures next { next_of (frame_of frame.entry) (M.areas memory.now) terminator.now result ≡ terminated (frame_of frame.entry) (M.areas memory.now) terminator.now }
+    ensures next { next_of (frame_of frame.now) (M.areas memory.now) terminator.now result ≡ terminated (frame_of frame.now) (M.areas memory.now) terminator.now }
     ensures call { result ≡ Ok Calls → IsSome (option_and_then call_of terminator.now) }
 {
     terminate(frame, memory, terminator)
@@ -93,13 +84,13 @@ fn leave_block<M: Memory>(
 /// How a block ends.
 #[inline(always)]
 fn end<M: Memory>(
-    frame: StackFrame<'_, '_>,
+    frame: &StackFrame<'_, '_>,
     memory: &M,
     way: &Way,
     terminator: &Option<Terminator>,
 ) -> Result<Exit, Fault>
-    requires { IsWay (code_in (frame_of frame)) way.now terminator.now }
-    ensures next { next_of (frame_of frame.entry) (M.areas memory.now) terminator.now result ≡ terminated (frame_of frame.entry) (M.areas memory.now) terminator.now }
+    requires { IsWay (code_in (frame_of frame.now)) way.now terminator.now }
+    ensures next { next_of (frame_of frame.now) (M.areas memory.now) terminator.now result ≡ terminated (frame_of frame.now) (M.areas memory.now) terminator.now }
     ensures call { result ≡ Ok Calls → IsSome (option_and_then call_of terminator.now) }
 {
     match follow(frame, memory, way) {
@@ -110,9 +101,9 @@ fn end<M: Memory>(
 
 /// The rows of a block of the body that runs, where it has the block.
 #[inline(always)]
-fn rows_of<'r>(frame: StackFrame<'r, '_>, block: BasicBlockId) -> Option<&'r BlockRows>
-    ensures found { IfSome result (λ rows. HasRows (code_in (frame_of frame.entry)) block.0 rows.now) }
-    ensures none { IfNone result (slice_get frame.entry.body.now.body.basic_blocks block.0 ≡ None) }
+fn rows_of<'r>(frame: &StackFrame<'r, '_>, block: BasicBlockId) -> Option<&'r BlockRows>
+    ensures found { IfSome result (λ rows. HasRows (code_in (frame_of frame.now)) block.0 rows.now) }
+    ensures none { IfNone result (slice_get frame.now.body.now.body.basic_blocks block.0 ≡ None) }
 {
     frame.body.block(block)
 }
@@ -121,12 +112,12 @@ fn rows_of<'r>(frame: StackFrame<'r, '_>, block: BasicBlockId) -> Option<&'r Blo
 #[inline(always)]
 #[tactic(auto, unfolding(mir::specs::Run::next_from))]
 pub(crate) fn enter<M: Memory>(
-    frame: StackFrame<'_, '_>,
+    frame: &StackFrame<'_, '_>,
     memory: &mut M,
     block: BasicBlockId,
 ) -> Result<Exit, Fault>
-    ensures next { OrNoMemory result (next_of (frame_of frame.entry) (M.areas memory.new) (terminator_at frame.entry.body.now.body block.0) result ≡ next_from (frame_of frame.entry) (M.areas memory.old) (slice_get frame.entry.body.now.body.basic_blocks block.0) 0) }
-    ensures call { result ≡ Ok Calls → IsSome (call_at frame.entry.body.now.body block.0) }
+    ensures next { OrNoMemory result (next_of (frame_of frame.now) (M.areas memory.new) (terminator_at frame.now.body.now.body block.0) result ≡ next_from (frame_of frame.now) (M.areas memory.old) (slice_get frame.now.body.now.body.basic_blocks block.0) 0) }
+    ensures call { result ≡ Ok Calls → IsSome (call_at frame.now.body.now.body block.0) }
 {
     let Some(rows) = rows_of(frame, block) else {
         return Err(Fault::NoTerminator);
@@ -144,13 +135,13 @@ pub(crate) fn enter<M: Memory>(
 #[inline(never)]
 #[tactic(auto, unfolding(mir::specs::Run::entering, mir::specs::Run::going_on), using(crate::proofs::Entering::enter_one))]
 pub(crate) fn enter_all<M: Memory>(
-    frame: StackFrame<'_, '_>,
+    frame: &StackFrame<'_, '_>,
     memory: &mut M,
     start: BasicBlockId,
     blocks: u64,
 ) -> Stop
-    ensures run { Halts (frame_of frame.entry) (M.areas memory.new) (terminator_at frame.entry.body.now.body result.block.0) result.left result.end (entering blocks (frame_of frame.entry) (M.areas memory.old) start.0) }
-    ensures call { HaltsAtCall frame.entry.body.now.body result.block.0 result.end }
+    ensures run { Halts (frame_of frame.now) (M.areas memory.new) (terminator_at frame.now.body.now.body result.block.0) result.left result.end (entering blocks (frame_of frame.now) (M.areas memory.old) start.0) }
+    ensures call { HaltsAtCall frame.now.body.now.body result.block.0 result.end }
     ensures fewer { OnOk result.end (result.left < blocks) }
     ensures within { result.left ≤ blocks }
 {

@@ -1,6 +1,6 @@
 //! The cells of locals, and the bytes in them.
 
-ghost use Rattle.std.specs.Prelude.{◌≡◌, length, option_map, IfSome, Some, Ok};
+ghost use Rattle.std.specs.Prelude.{◌≡◌, length, option_map, IfNone, IfSome, OnErr, Some, Ok};
 ghost use Rattle.std.specs.List.{concat};
 ghost use Rattle.numbers.specs.Bytes.{value_of};
 ghost use Rattle.mir.specs.Memory.{cell_bytes};
@@ -8,7 +8,7 @@ ghost use Rattle.mir.specs.Run.{copied, read};
 ghost use Rattle.mir_eval.specs.Steps.{left_with};
 
 use crate::faults::Fault;
-use mir::{Interval, LocalId};
+use mir::{Address, Interval, LocalId};
 use mir_mem::{Memory, View, gather, whole};
 use mir_rows::{Numbers, cell_of};
 use numbers::{number_of, word8};
@@ -74,7 +74,31 @@ fn word_in(view: &View<'_>) -> Option<u64>
 pub(crate) fn read<M: Memory>(memory: &M, cell: Interval) -> Option<View<'_>>
     ensures { option_map concat result ≡ cell_bytes (M.areas memory.now) cell }
 {
-    memory.read(cell.addr, cell.size).ok()
+    match memory.read(cell.addr, cell.size) {
+        Ok(view) => Some(view),
+        Err(_fault) => None,
+    }
+}
+
+/// Writes bytes from the start of a cell on, where the memory has as many there, and without `FAR` the cell lies on the stack. Where they can't be written,
+/// nothing has changed.
+#[inline(always)]
+#[tactic(auto, unfolding(mir::specs::Areas::after_write, mir::specs::Run::copied))]
+pub(crate) fn put<M: Memory, const FAR: bool>(
+    memory: &mut M,
+    to: Interval,
+    bytes: &[u8],
+) -> Option<()>
+    ensures done { IfSome result (λ done. Ok (M.areas memory.new) ≡ copied (M.areas memory.old) (Some to) (Ok bytes.now)) }
+    ensures kept { IfNone result (M.areas memory.new ≡ M.areas memory.old) }
+{
+    if !FAR && !matches!(to.addr, Address::Stack(_)) {
+        return None;
+    }
+    match memory.write(to.addr, bytes) {
+        Ok(()) => Some(()),
+        Err(_) => None,
+    }
 }
 
 /// Writes bytes from the start of a cell on, where the memory has as many there.
@@ -93,7 +117,8 @@ pub(crate) fn write<M: Memory>(memory: &mut M, to: Interval, bytes: &[u8]) -> Re
 #[inline(always)]
 #[tactic(auto, unfolding(mir::specs::Areas::reading, mir::specs::Areas::after_write, mir::specs::Areas::after_copy, mir::specs::Run::copied))]
 pub(crate) fn copy<M: Memory>(memory: &mut M, from: Interval, to: Interval) -> Result<(), Fault>
-    ensures { left_with (M.areas memory.new) result ≡ copied (M.areas memory.old) (Some to) (read (cell_bytes (M.areas memory.old) from)) }
+    ensures done { left_with (M.areas memory.new) result ≡ copied (M.areas memory.old) (Some to) (read (cell_bytes (M.areas memory.old) from)) }
+    ensures kept { OnErr result (M.areas memory.new ≡ M.areas memory.old) }
 {
     match memory.copy(to.addr, from) {
         Ok(()) => Ok(()),

@@ -475,7 +475,7 @@ impl<'a, M: Memory + Drop> Run<'a, M> {
         ensures within { self.new.left ≤ self.old.left }
     {
         let stop = enter_all(
-            StackFrame {
+            &StackFrame {
                 program: &self.program,
                 body: self.body.as_ref(),
                 cells: self.cells.as_slice(),
@@ -497,7 +497,7 @@ impl<'a, M: Memory + Drop> Run<'a, M> {
         ensures call { result ≡ Ok Calls → IsSome (call_at self.new.body.value.body block.0) }
     {
         enter(
-            StackFrame {
+            &StackFrame {
                 program: &self.program,
                 body: self.body.as_ref(),
                 cells: self.cells.as_slice(),

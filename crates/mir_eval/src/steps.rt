@@ -342,18 +342,18 @@ fn branch<M: Memory>(
 #[inline(never)]
 #[tactic(auto, unfolding(mir::specs::Run::terminated))]
 pub(crate) fn terminate<M: Memory>(
-    frame: StackFrame<'_, '_>,
+    frame: &StackFrame<'_, '_>,
     memory: &M,
     terminator: &Option<Terminator>,
 ) -> Result<Exit, Fault>
-    ensures next { next_of (frame_of frame.entry) (M.areas memory.now) terminator.now result ≡ terminated (frame_of frame.entry) (M.areas memory.now) terminator.now }
+    ensures next { next_of (frame_of frame.now) (M.areas memory.now) terminator.now result ≡ terminated (frame_of frame.now) (M.areas memory.now) terminator.now }
     ensures call { result ≡ Ok Calls → IsSome (option_and_then call_of terminator.now) }
 {
     match terminator {
         Some(terminator) => match &terminator.kind {
             TerminatorKind::Goto { target } => Ok(Exit::GoesTo(*target)),
             TerminatorKind::SwitchInt { discr, targets } => {
-                branch(frame, memory, &discr.kind, targets)
+                branch(*frame, memory, &discr.kind, targets)
             }
             TerminatorKind::Return => Ok(Exit::Returns),
             TerminatorKind::Drop { target, .. } => Ok(Exit::GoesTo(*target)),

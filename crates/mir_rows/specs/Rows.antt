@@ -64,7 +64,7 @@ pub record IsCast (code : Prepared) (kind : Kind) (size : ℕ) (from : Source) (
 
 -- an action is what a statement of a body does, by the layouts of a world
 abbrev pub Says : Prepared → Action → StatementKind → Type 0
-Says code (action.Combine op kind other_kind to left right) (Assign place (CheckedBinaryOp operator one other)) = IsSpot code place to × (operator ≡ op) × AreOperands code kind other_kind left right one.kind other.kind
+Says code (action.Combine op kind other_kind guess to left right) (Assign place (CheckedBinaryOp operator one other)) = IsSpot code place to × (operator ≡ op) × AreOperands code kind other_kind left right one.kind other.kind
 Says code (action.Cast kind size to from) (Assign place (Cast cast operand ty)) = IsSpot code place to × IsCast code kind size from operand.kind ty
 Says code (action.Copy to from) (Assign place (Use operand)) = IsSpot code place to × LiesAt code from operand.kind
 Says code (action.Put to value) (Assign place (Use operand)) = IsSpot code place to × IsSource code (source.Constant value) operand.kind

@@ -9,6 +9,7 @@ ghost use Rattle.mir_rows.specs.Rows.{is_idle, short_bytes, AreBlocks, AreRows, 
 ghost use Rattle.mir_rows.specs.Spots.{prepared};
 
 use crate::operands::{constant_bytes, operand_kind};
+use crate::places::place_type;
 use crate::row::{Action, BlockRows, Row, Short, Source, Way};
 use crate::spots::{Spot, spot_of};
 use mir::{
@@ -46,6 +47,22 @@ fn source(alloc: Global, db: &HirDatabase, body: &MirBody, operand: &OperandKind
     }
 }
 
+/// How many bytes an operand has, where that is a frequent number for an operator, and otherwise 0.
+fn guess(db: &HirDatabase, body: &MirBody, operand: &OperandKind) -> u8 {
+    let ty = match operand {
+        OperandKind::Copy(place) => place_type(db, body, *place),
+        OperandKind::Constant { ty, .. } => Some(ty),
+    };
+    match ty {
+        Some(ty) => match fixed_size(ty) {
+            Some(4) => 4,
+            Some(8) => 8,
+            _ => 0,
+        },
+        None => 0,
+    }
+}
+
 /// The assignment of what an operator makes of two operands, where the place has a spot, and the operands have sources, and are of one kind
 /// unless the operator is a shift.
 fn combine(
@@ -69,6 +86,7 @@ fn combine(
         op,
         kind,
         other,
+        guess: guess(db, body, &left.kind),
         to,
         left: source(alloc, db, body, &left.kind)?,
         right: source(alloc, db, body, &right.kind)?,

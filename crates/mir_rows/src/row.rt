@@ -37,10 +37,12 @@ pub enum Source {
 #[derive(Drop)]
 pub enum Action {
     /// It assigns to a spot what an operator makes of two operands. `kind` is what the bytes of the first are, and `other` what those of the second are.
+    /// How many bytes each has is a guess, which a run tests: 0 stands for a number that isn't frequent.
     Combine {
         op: BinOp,
         kind: Kind,
         other: Kind,
+        guess: u8,
         to: Spot,
         left: Source,
         right: Source,

@@ -8,5 +8,5 @@ returns-then-bytes-eq1 g c =
     record {
       cell = c.in_ok-cell.cell;
       lies = c.in_ok-cell.ensures;
-      holds = sym c.in_ok-view.ensures ∙ ap Some (sym c.in_ok-bytes.ensures ∙ one-byte c.in_ok-bytes.bytes.now one);
+      holds = c.in_ok-view.ensures ∙ ap Some (sym c.in_ok-bytes.ensures ∙ one-byte c.in_ok-bytes.bytes.now one);
     }

@@ -8,4 +8,4 @@ pub returns-clause-run : goal.returns-clause-run
 returns-clause-run g c =
     let at = c.loop-left in
     let none : at.left ≡ 0 = omega (arith, c.loop-left-test.false) in
-    halts-out (frame_of c.args.frame) (g.M.Memory.areas at.memory) at.block.0 at.left (terminator_at c.args.frame.body.now.body at.block.0) _ none at.invariant.same
+    halts-out (frame_of c.args.frame.now) (g.M.Memory.areas at.memory) at.block.0 at.left (terminator_at c.args.frame.now.body.now.body at.block.0) _ none at.invariant.same

@@ -7,6 +7,6 @@ use Rattle.mir_eval.proofs.blocks.rows_of.Goals as goal
 
 pub returns-clause-found : goal.returns-clause-found
 returns-clause-found c =
-    let frame = c.args.frame in
+    let frame = c.args.frame.now in
     subst (λ (code : Prepared). IfSome c.block.result (λ rows. HasRows code c.args.block.0 rows.now))
     (ap (λ (world : HirDatabase). prepared world frame.body.now.body) frame.world) c.block.ensures.found

@@ -9,21 +9,21 @@ loop-row-init g c = record { statements = c.args.block.now.statements; are = c.r
 pub run_row-requires : goal.run_row-requires
 run_row-requires g c =
     let at = c.loop-row in
-    has-statement (frame_of c.args.frame) (code_in (frame_of c.args.frame)) c.args.block.now.statements c.args.rows.now at.row-index c.row-item.result (g.M.Memory.areas at.memory) _ c.loop-row-test.true c.row-item.is at.invariant
+    has-statement (frame_of c.args.frame.now) (code_in (frame_of c.args.frame.now)) c.args.block.now.statements c.args.rows.now at.row-index c.row-item.result (g.M.Memory.areas at.memory) _ c.loop-row-test.true c.row-item.is at.invariant
 
 pub loop-row-preserved : goal.loop-row-preserved
 loop-row-preserved g c =
     let at = c.loop-row in
-    ran (frame_of c.args.frame) (code_in (frame_of c.args.frame)) c.args.block.now.statements c.args.rows.now at.row-index c.row-item.result (g.M.Memory.areas at.memory) _ c.loop-row-test.true c.row-item.is at.invariant
+    ran (frame_of c.args.frame.now) (code_in (frame_of c.args.frame.now)) c.args.block.now.statements c.args.rows.now at.row-index c.row-item.result (g.M.Memory.areas at.memory) _ c.loop-row-test.true c.row-item.is at.invariant
     c.run_row.result (g.M.Memory.areas c.run_row.new.memory) c.in-Ok.is c.run_row.ensures
 
 pub returns-in-Err : goal.returns-in-Err
 returns-in-Err g c =
     let at = c.loop-row in
-    faulted (frame_of c.args.frame) (code_in (frame_of c.args.frame)) c.args.block.now.statements c.args.rows.now at.row-index c.row-item.result (g.M.Memory.areas at.memory) _ c.loop-row-test.true c.row-item.is at.invariant
+    faulted (frame_of c.args.frame.now) (code_in (frame_of c.args.frame.now)) c.args.block.now.statements c.args.rows.now at.row-index c.row-item.result (g.M.Memory.areas at.memory) _ c.loop-row-test.true c.row-item.is at.invariant
     c.in-Err.fault c.in-Err.ensures
 
 pub returns : goal.returns
 returns g c =
     let at = c.loop-row in
-    inl (all-ran (frame_of c.args.frame) (code_in (frame_of c.args.frame)) c.args.block.now.statements c.args.rows.now at.row-index (g.M.Memory.areas at.memory) _ c.loop-row-test.false at.invariant)
+    inl (all-ran (frame_of c.args.frame.now) (code_in (frame_of c.args.frame.now)) c.args.block.now.statements c.args.rows.now at.row-index (g.M.Memory.areas at.memory) _ c.loop-row-test.false at.invariant)
