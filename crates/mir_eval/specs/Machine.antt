@@ -1,5 +1,5 @@
 -- The machine that runs a body, as its callers see it, and what its calls do.
-use Rattle.std.specs.Prelude.{◌≡◌, ◌⊎◌, ℕ, zero, suc, ◌-◌, ◌≤◌, nat_le, if◌then◌else◌, List, [], Option, Some, None, Result, Ok, Err, slice_get, option_and_then}
+use Rattle.std.specs.Prelude.{◌≡◌, ◌⊎◌, ℕ, zero, suc, ◌-◌, ◌≤◌, nat_le, if◌then◌else◌, List, [], Option, Some, None, Result, Ok, Err, slice_get, option_and_then, option_map, unwrap_or}
 use Rattle.world.specs.declared.database.HirDatabase.{HirDatabase}
 use Rattle.source_meaning.specs.Heights.{height}
 use Rattle.types.specs.declared.ty.Const.{Const}
@@ -11,6 +11,7 @@ use Rattle.mir.specs.declared.answers.Answer.{Answer}
 use Rattle.mir.specs.declared.answers.Query.{Query}
 use Rattle.mir.specs.declared.body.MirBody.{MirBody}
 use Rattle.mir.specs.declared.body.Terminator.{Terminator}
+use Rattle.mir.specs.declared.statement.Statement.{Statement}
 use Rattle.mir.specs.declared.body.TerminatorKind.TheVariants.{Call}
 use Rattle.mir.specs.declared.errors.MirEvalError.{MirEvalError}
 use Rattle.mir.specs.declared.errors.MirEvalError as error
@@ -58,6 +59,10 @@ pointer_bytes world owner =
 -- what a run goes by that is begun on a machine, which was told nothing yet
 abbrev pub program_at_first : Machine → Program
 program_at_first machine = record { world = machine.world; nesting = machine.nesting; bytes = machine.bytes; answers = [] }
+
+-- the statements of a block, none where the body doesn't have it
+abbrev pub statements_at : MirBody → ℕ → List Statement
+statements_at body block = unwrap_or (option_map (λ basic_block. basic_block.statements) (slice_get body.basic_blocks block)) []
 
 -- the terminator of a block of a body, where the body has the block, and the block a terminator
 abbrev pub terminator_at : MirBody → ℕ → Option Terminator

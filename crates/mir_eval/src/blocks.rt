@@ -14,7 +14,7 @@ use crate::faults::Fault;
 use crate::frames::StackFrame;
 use crate::rows::{find, run_rows, view};
 use crate::steps::{Exit, Halt, Stop, terminate};
-use mir::{BasicBlockId, Terminator};
+use mir::BasicBlockId;
 use mir_mem::{Memory, whole};
 use mir_rows::{BlockRows, Spot, Way};
 
@@ -73,12 +73,15 @@ fn follow<M: Memory>(frame: &StackFrame<'_, '_>, memory: &M, way: &Way) -> Optio
 fn leave_block<M: Memory>(
     frame: &StackFrame<'_, '_>,
     memory: &M,
-    terminator: &Option<Terminator>,
+    block: BasicBlockId,
 ) -> Result<Exit, Fault>
-    ensures next { next_of (frame_of frame.now) (M.areas memory.now) terminator.now result ≡ terminated (frame_of frame.now) (M.areas memory.now) terminator.now }
-    ensures call { result ≡ Ok Calls → IsSome (option_and_then call_of terminator.now) }
+    ensures next { next_of (frame_of frame.now) (M.areas memory.now) (terminator_at frame.now.body.now.body block.0) result ≡ terminated (frame_of frame.now) (M.areas memory.now) (terminator_at frame.now.body.now.body block.0) }
+    ensures call { result ≡ Ok Calls → IsSome (call_at frame.now.body.now.body block.0) }
 {
-    terminate(frame, memory, terminator)
+    match frame.body.body().basic_blocks.get(block.0 as u64) {
+        Some(block) => terminate(frame, memory, &block.terminator),
+        None => terminate(frame, memory, &None),
+    }
 }
 
 /// How a block ends.
@@ -87,15 +90,15 @@ fn end<M: Memory>(
     frame: &StackFrame<'_, '_>,
     memory: &M,
     way: &Way,
-    terminator: &Option<Terminator>,
+    block: BasicBlockId,
 ) -> Result<Exit, Fault>
-    requires { IsWay (code_in (frame_of frame.now)) way.now terminator.now }
-    ensures next { next_of (frame_of frame.now) (M.areas memory.now) terminator.now result ≡ terminated (frame_of frame.now) (M.areas memory.now) terminator.now }
-    ensures call { result ≡ Ok Calls → IsSome (option_and_then call_of terminator.now) }
+    requires { IsWay (code_in (frame_of frame.now)) way.now (terminator_at frame.now.body.now.body block.0) }
+    ensures next { next_of (frame_of frame.now) (M.areas memory.now) (terminator_at frame.now.body.now.body block.0) result ≡ terminated (frame_of frame.now) (M.areas memory.now) (terminator_at frame.now.body.now.body block.0) }
+    ensures call { result ≡ Ok Calls → IsSome (call_at frame.now.body.now.body block.0) }
 {
     match follow(frame, memory, way) {
-        Some(block) => Ok(Exit::GoesTo(block)),
-        None => Ok(leave_block(frame, memory, terminator)?),
+        Some(target) => Ok(Exit::GoesTo(target)),
+        None => Ok(leave_block(frame, memory, block)?),
     }
 }
 
@@ -122,11 +125,8 @@ pub(crate) fn enter<M: Memory>(
     let Some(rows) = rows_of(frame, block) else {
         return Err(Fault::NoTerminator);
     };
-    let Some(block) = frame.body.body().basic_blocks.get(block.0 as u64) else {
-        return Err(Fault::NoTerminator);
-    };
     match run_rows(frame, memory, block, rows.rows.as_slice()) {
-        Ok(()) => end(frame, memory, &rows.way, &block.terminator),
+        Ok(()) => end(frame, memory, &rows.way, block),
         Err(fault) => Err(fault),
     }
 }

@@ -12,6 +12,7 @@ ghost use Rattle.mir_ops.specs.Made.{made_bytes};
 ghost use Rattle.mir_rows.specs.declared.row.Action.TheVariants.{Cast, Combine, Copy, Put};
 ghost use Rattle.mir_rows.specs.Rows.{AreOperands, AreRows, IsRow, IsSource, Says};
 ghost use Rattle.mir_eval.specs.Frames.{code_in, frame_of};
+ghost use Rattle.mir_eval.specs.Machine.{statements_at};
 ghost use Rattle.mir_eval.specs.Reads.{HasBytes, LiesIn, Makes};
 ghost use Rattle.mir_eval.specs.Steps.{left_with, OrNoMemory};
 
@@ -19,7 +20,7 @@ use crate::cells::{Held, copy, put, read};
 use crate::faults::Fault;
 use crate::frames::StackFrame;
 use crate::steps::execute;
-use mir::{Address, BasicBlock, BinOp, Interval};
+use mir::{Address, BasicBlockId, BinOp, Interval};
 use mir_mem::{Memory, View, whole};
 use mir_ops::{
     Made, byte_of, bytes1, bytes2, bytes4, bytes8, bytes16, converted_of, made_of, word_made_of,
@@ -348,12 +349,15 @@ fn act_far<M: Memory>(frame: &StackFrame<'_, '_>, memory: &mut M, action: &Actio
 fn run_statement<M: Memory>(
     frame: &StackFrame<'_, '_>,
     memory: &mut M,
-    block: &BasicBlock,
+    block: BasicBlockId,
     row: &Row,
 ) -> Result<(), Fault>
-    requires { (statement : Statement) × IsRow (code_in (frame_of frame.now)) block.now.statements statement row.now }
-    ensures { (statement : Statement) → IsRow (code_in (frame_of frame.now)) block.now.statements statement row.now → OrNoMemory result (left_with (M.areas memory.new) result ≡ after_statement (frame_of frame.now) (M.areas memory.old) statement.kind) }
+    requires { (statement : Statement) × IsRow (code_in (frame_of frame.now)) (statements_at frame.now.body.now.body block.0) statement row.now }
+    ensures { (statement : Statement) → IsRow (code_in (frame_of frame.now)) (statements_at frame.now.body.now.body block.0) statement row.now → OrNoMemory result (left_with (M.areas memory.new) result ≡ after_statement (frame_of frame.now) (M.areas memory.old) statement.kind) }
 {
+    let Some(block) = frame.body.body().basic_blocks.get(block.0 as u64) else {
+        unreachable!()
+    };
     match block.statements.get(row.place) {
         Some(statement) => execute(*frame, memory, &statement.kind),
         None => unreachable!(),
@@ -365,11 +369,11 @@ fn run_statement<M: Memory>(
 fn leave_row<M: Memory>(
     frame: &StackFrame<'_, '_>,
     memory: &mut M,
-    block: &BasicBlock,
+    block: BasicBlockId,
     row: &Row,
 ) -> Result<(), Fault>
-    requires { (statement : Statement) × IsRow (code_in (frame_of frame.now)) block.now.statements statement row.now }
-    ensures { (statement : Statement) → IsRow (code_in (frame_of frame.now)) block.now.statements statement row.now → OrNoMemory result (left_with (M.areas memory.new) result ≡ after_statement (frame_of frame.now) (M.areas memory.old) statement.kind) }
+    requires { (statement : Statement) × IsRow (code_in (frame_of frame.now)) (statements_at frame.now.body.now.body block.0) statement row.now }
+    ensures { (statement : Statement) → IsRow (code_in (frame_of frame.now)) (statements_at frame.now.body.now.body block.0) statement row.now → OrNoMemory result (left_with (M.areas memory.new) result ≡ after_statement (frame_of frame.now) (M.areas memory.old) statement.kind) }
 {
     run_statement(frame, memory, block, row)
 }
@@ -379,11 +383,11 @@ fn leave_row<M: Memory>(
 fn run_row<M: Memory>(
     frame: &StackFrame<'_, '_>,
     memory: &mut M,
-    block: &BasicBlock,
+    block: BasicBlockId,
     row: &Row,
 ) -> Result<(), Fault>
-    requires { (statement : Statement) × IsRow (code_in (frame_of frame.now)) block.now.statements statement row.now }
-    ensures { (statement : Statement) → IsRow (code_in (frame_of frame.now)) block.now.statements statement row.now → OrNoMemory result (left_with (M.areas memory.new) result ≡ after_statement (frame_of frame.now) (M.areas memory.old) statement.kind) }
+    requires { (statement : Statement) × IsRow (code_in (frame_of frame.now)) (statements_at frame.now.body.now.body block.0) statement row.now }
+    ensures { (statement : Statement) → IsRow (code_in (frame_of frame.now)) (statements_at frame.now.body.now.body block.0) statement row.now → OrNoMemory result (left_with (M.areas memory.new) result ≡ after_statement (frame_of frame.now) (M.areas memory.old) statement.kind) }
 {
     if act::<M, false>(frame, memory, &row.action).is_some() {
         return Ok(());
@@ -399,11 +403,11 @@ fn run_row<M: Memory>(
 pub(crate) fn run_rows<M: Memory>(
     frame: &StackFrame<'_, '_>,
     memory: &mut M,
-    block: &BasicBlock,
+    block: BasicBlockId,
     rows: &[Row],
 ) -> Result<(), Fault>
-    requires { AreRows (code_in (frame_of frame.now)) block.now.statements block.now.statements rows.now }
-    ensures { OrNoMemory result (left_with (M.areas memory.new) result ≡ after_statements (frame_of frame.now) block.now.statements (M.areas memory.old)) }
+    requires { AreRows (code_in (frame_of frame.now)) (statements_at frame.now.body.now.body block.0) (statements_at frame.now.body.now.body block.0) rows.now }
+    ensures { OrNoMemory result (left_with (M.areas memory.new) result ≡ after_statements (frame_of frame.now) (statements_at frame.now.body.now.body block.0) (M.areas memory.old)) }
 {
     for row in rows {
         match run_row(frame, memory, block, row) {
