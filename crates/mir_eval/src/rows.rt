@@ -140,7 +140,8 @@ fn assign_made<M: Memory, const FAR: bool>(memory: &mut M, to: Interval, made: M
     }
 }
 
-/// Assigns to a spot what an operator makes of two operands, where that can be done without the statement. Where it can't, nothing has changed.
+/// Assigns to a spot what an operator makes of two operands, where that can be done without the statement. Where it can't, nothing has changed. `guess` is that of
+/// the row, and stands here for what is ensured alone.
 #[inline(always)]
 fn put_combined<M: Memory, const FAR: bool, const N: usize>(
     frame: &StackFrame<'_, '_>,
