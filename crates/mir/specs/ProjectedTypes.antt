@@ -1,5 +1,5 @@
 -- The type of what an element of a projection leads to, from a place of some type. Where there is none, it is the type `Error`.
-use Rattle.std.specs.Prelude.{◌≡◌, ℕ, ◌+◌, ◌-◌, ◌==◌, Bool, false, if◌then◌else◌, nat_le, List, length, Option, Some, None, slice_get, option_map, option_and_then}
+use Rattle.std.specs.Prelude.{◌≡◌, ℕ, ◌+◌, ◌-◌, Bool, false, if◌then◌else◌, nat_le, List, Option, Some, None, slice_get, option_map, option_and_then}
 use Rattle.either.specs.declared.Either.TheVariants.{Left, Right}
 use Rattle.check_instances.specs.Instances.{ty_instance, type_argument}
 use Rattle.check_instances.specs.Ready.{ready_instance}

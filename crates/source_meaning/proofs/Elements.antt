@@ -1,23 +1,21 @@
 -- What an element leads to from a value of a type that has it: of which type that is, and that it lies inside.
-use Rattle.std.proofs.Common.{◌≡◌, ℕ, suc, ◌+◌, ◌*◌, ◌<◌, ◌≤◌, ◌==◌, false, IfSome, List, slice_get, get_or, length, Option, Some, None, option_map, option_and_then, if◌then◌else◌, sym, ap, ap₂, ◌∙◌, subst, rules, arith, leb-false, lt-ltb}
+use Rattle.std.proofs.Common.{◌≡◌, ℕ, suc, ◌+◌, ◌*◌, ◌<◌, ◌≤◌, false, IfSome, List, slice_get, get_or, Option, Some, None, option_map, option_and_then, if◌then◌else◌, sym, ap, ap₂, ◌∙◌, subst, rules, arith, leb-false, lt-ltb}
 use Rattle.std.proofs.lemmas.Nat.{mul-le}
 use Rattle.std.proofs.lemmas.Option.{slice_get_within, slice_get-get_or}
 use Rattle.types.specs.declared.ids.AdtId.TheVariants as adt
 use Rattle.types.specs.declared.ids.FieldId.{FieldId}
 use Rattle.types.specs.declared.ids.StructId.{StructId}
 use Rattle.types.specs.declared.ids.VariantId.{VariantId}
-use Rattle.types.specs.declared.ids.VariantId.TheVariants as variant
 use Rattle.types.specs.declared.ty.Const.{Const}
 use Rattle.types.specs.declared.ty.Const.TheFolds.{the_lemmas}
 use Rattle.types.specs.declared.ty.Const.TheOpen as layer
-use Rattle.types.specs.declared.ty.GenericArg.{GenericArg}
 use Rattle.types.specs.declared.ty.GenericArgs.{GenericArgs}
 use Rattle.types.specs.declared.ty.Ty.{Ty}
 use Rattle.types.specs.declared.ty.Ty.TheVariants.{Adt, Array, Tuple}
 use Rattle.world.specs.declared.database.HirDatabase.{HirDatabase}
 use Rattle.world.specs.declared.items.FieldRow.{FieldRow}
 use Rattle.world.specs.declared.layout.Layout.{Layout}
-use Rattle.world.specs.Lookups.{fields_of, layout_of}
+use Rattle.world.specs.Lookups.{layout_of}
 use Rattle.source_meaning.specs.Aggregates.{HasAggregates, IsPartInside, array_length}
 use Rattle.check_instances.specs.Ready.{ready_instance}
 use Rattle.source_meaning.specs.Core.{ElementAt, PlaceElem, Part, FieldOf}

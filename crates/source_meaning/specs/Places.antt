@@ -16,7 +16,7 @@ use Rattle.types.specs.declared.ty.Const.TheOpen as layer
 use Rattle.types.specs.declared.ty.UnevaluatedConst.{UnevaluatedConst}
 use Rattle.types.specs.declared.ty.ValueConst.{ValueConst}
 use Rattle.world.specs.declared.database.HirDatabase.{HirDatabase}
-use Rattle.world.specs.Lookups.{fields_of, layout_of}
+use Rattle.world.specs.Lookups.{layout_of}
 use Rattle.numbers.specs.Aggregates.{with_part}
 use Rattle.source_meaning.specs.Aggregates.{array_length}
 use Rattle.source_meaning.specs.Contents.{Contents, holding}
