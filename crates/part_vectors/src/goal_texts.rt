@@ -1,7 +1,7 @@
 //! The lines of answers that no run of the program gives yet, written by hand.
 
 use either::Either;
-use mir::{ConstEvalError, MirEvalError, MirLowerError, MirSpan, TrailEntry};
+use mir::{ConstEvalError, MirEvalError, MirSpan, TrailEntry};
 use mir_eval::MirOutput;
 use report_text::goal_text;
 use std::alloc::Global;
@@ -203,31 +203,6 @@ fn calls_of_functions(alloc: Global) -> Result<(), Fail> {
     says(alloc, 0, &answer, 1, lines)
 }
 
-/// A constant's call of a function whose body cannot be lowered, for this reason.
-fn not_lowered(alloc: Global, error: MirLowerError) -> Result<ConstEvalError, NoMemory> {
-    let constant = DefWithBodyId::ConstId(ConstId(1));
-    let call = call_of(0, MirSpan::ExprId(ExprId(1)), constant);
-    let fault = MirEvalError::MirLowerError(FunctionId(0), error);
-    in_function(alloc, fault, one(alloc, call)?)
-}
-
-/// A call of a function whose body has a typing error.
-fn erroneous_function(alloc: Global) -> Result<(), Fail> {
-    let answer = Err(not_lowered(alloc, MirLowerError::HasErrors)?);
-    let lines =
-        "goal 1 error eval InFunction(MirLowerError(fn#0, HasErrors), [fn#0 at expr#1 of const#1])\n  turns 1\n";
-    says(alloc, 1, &answer, 1, lines)
-}
-
-/// A call of a function whose body has a name that stands for nothing.
-fn unresolved_function(alloc: Global) -> Result<(), Fail> {
-    let name = Text::from_str(alloc, "x")?;
-    let answer = Err(not_lowered(alloc, MirLowerError::UnresolvedName(name))?);
-    let lines =
-        "goal 1 error eval InFunction(MirLowerError(fn#0, UnresolvedName(\"x\")), [fn#0 at expr#1 of const#1])\n  turns 1\n";
-    says(alloc, 1, &answer, 1, lines)
-}
-
 #[test]
 fn answers_that_no_run_gives_have_lines(rt: HostRuntime) -> Result<(), Fail> {
     let alloc = rt.alloc();
@@ -237,7 +212,5 @@ fn answers_that_no_run_gives_have_lines(rt: HostRuntime) -> Result<(), Fail> {
     memory(alloc)?;
     memory_at_zero(alloc)?;
     calls_of_a_closure(alloc)?;
-    calls_of_functions(alloc)?;
-    erroneous_function(alloc)?;
-    unresolved_function(alloc)
+    calls_of_functions(alloc)
 }
