@@ -1,4 +1,3 @@
 pub mod Names
 pub mod Closed
 pub mod Agree
-pub mod Marks

@@ -3,7 +3,7 @@ use Rattle.std.proofs.Common.{◌≡◌, ℕ, ◌+◌, ◌<◌, Bool, true, fals
 use Rattle.std.proofs.lemmas.List.{take_more}
 use Rattle.std.specs.Map.{lookup}
 use Rattle.std.specs.Option.{option_or}
-use Rattle.check_trees.specs.inner.Holders.{noted, AreFirstHolders}
+use Rattle.check_trees.specs.inner.Walks.{AreFirstHolders}
 use Rattle.check_trees.specs.Tree.{same_node}
 use Rattle.check_trees.specs.declared.node.BodyNode.{BodyNode}
 
@@ -38,7 +38,7 @@ noted_is o true x = refl
 noted_is o false x = none_more o
 
 -- the table stays right when the next pair's parent is stored
-pub holders_more : (node_at : ℕ → BodyNode) (pairs : List (BodyNode × BodyNode)) (i : ℕ) (d : BodyNode × BodyNode) (slots new : List (Option BodyNode)) (place : ℕ) → i < length pairs → ((k : ℕ) → same_node (node_at k) (get_or pairs i d).0 ≡ eqb k place) → AreFirstHolders node_at (take i pairs) slots → length new ≡ length slots → ((k : ℕ) → k < length slots → get_or new k None ≡ noted place (get_or pairs i d).1 slots k) → AreFirstHolders node_at (take (i + 1) pairs) new
+pub holders_more : (node_at : ℕ → BodyNode) (pairs : List (BodyNode × BodyNode)) (i : ℕ) (d : BodyNode × BodyNode) (slots new : List (Option BodyNode)) (place : ℕ) → i < length pairs → ((k : ℕ) → same_node (node_at k) (get_or pairs i d).0 ≡ eqb k place) → AreFirstHolders node_at (take i pairs) slots → length new ≡ length slots → ((k : ℕ) → k < length slots → get_or new k None ≡ cond (eqb k place) (option_or (get_or slots k None) (Some (get_or pairs i d).1)) (get_or slots k None)) → AreFirstHolders node_at (take (i + 1) pairs) new
 holders_more node_at pairs i d slots new place h here first len notes k below =
     let inside : k < length slots = omega arith in
     let x = (get_or pairs i d).1 in

@@ -1,10 +1,9 @@
 -- Jumps that name the label of an enclosing loop or block.
-use Rattle.std.specs.Prelude.{ℕ, zero, suc, ◌==◌, ◌||◌, if◌then◌else◌, Bool, true, false, Option, Some, None, slice_get}
+use Rattle.std.specs.Prelude.{◌≡◌, ℕ, zero, suc, ◌<◌, ◌==◌, Bool, true, false, Option, Some, None, option_and_then, slice_get}
 use Rattle.types.specs.declared.ids.LabelId.{LabelId}
 use Rattle.world.specs.declared.body.Body.{Body}
 use Rattle.world.specs.declared.expr.Expr.{Expr as Expression}
 use Rattle.world.specs.Nodes.{jump_label, scope_label}
-use Rattle.world.specs.Failing.{first_failing}
 use Rattle.check_trees.specs.Tree.{holder_of, is_top}
 use Rattle.check_trees.specs.declared.node.BodyNode.{BodyNode}
 use Rattle.check_trees.specs.declared.node.BodyNode.TheVariants.{Expr, Pat}
@@ -14,35 +13,24 @@ abbrev pub is_label : Option LabelId → LabelId → Bool
 is_label None label = false
 is_label (Some other) label = other.0 == label.0
 
--- whether an optional expression is a loop or a block with the label
-abbrev pub has_label : LabelId → Option Expression → Bool
-has_label label None = false
-has_label label (Some e) = is_label (scope_label e) label
-
 -- whether a node is a loop or a block with the label
 abbrev pub is_labelled : Body → LabelId → BodyNode → Bool
-is_labelled body label (Expr e) = has_label label (slice_get body.exprs e)
+is_labelled body label (Expr e) = is_label (option_and_then scope_label (slice_get body.exprs e)) label
 is_labelled body label (Pat p) = false
 
--- the parent, if there is one, has the label or is itself enclosed by it
-abbrev pub by_holder : Body → LabelId → (BodyNode → Bool) → Option BodyNode → Bool
-by_holder body label further None = false
-by_holder body label further (Some holder) = is_labelled body label holder || further holder
+-- one node is held by another, so many steps up; the way up ends at the root and at the parameters
+unfoldable pub IsAbove : Body → ℕ → BodyNode → BodyNode → Type 0
+IsAbove body zero node above = node ≡ above
+IsAbove body (suc steps) node above = (is_top body node ≡ false) × ((holder : BodyNode) × (holder_of body node ≡ Some holder) × IsAbove body steps holder above)
 
--- whether a loop or a block with the label is among the next `steps` ancestors of a node; the root and the parameters count as having no parent
-unfoldable pub is_enclosed : Body → LabelId → ℕ → BodyNode → Bool
-is_enclosed body label zero node = false
-is_enclosed body label (suc steps) node =
-    if is_top body node then false else by_holder body label (is_enclosed body label steps) (holder_of body node)
+-- A loop or a block with the label holds a node, directly or through other nodes. The way to it has at most 401 steps; in a tree none has more than 400.
+pub record IsEnclosed (body : Body) (label : LabelId) (node : BodyNode) : Type 0 where
+  pub steps : ℕ
+  pub above : BodyNode
+  pub few : steps < 401
+  pub way : IsAbove body (suc steps) node above
+  pub labelled : is_labelled body label above ≡ true
 
--- a jump names no label, or that of an enclosing loop or block; paths in trees have at most 400 steps
-abbrev pub names_enclosing : Body → ℕ → Option LabelId → Bool
-names_enclosing body e None = true
-names_enclosing body e (Some label) = is_enclosed body label 401 (Expr e)
-
-abbrev pub is_jump_inside : Body → ℕ → Expression → Bool
-is_jump_inside body e node = names_enclosing body e (jump_label node)
-
--- the first jump to a label that no enclosing loop or block has
-abbrev pub wrong_jump : Body → Option ℕ
-wrong_jump body = first_failing (is_jump_inside body) 0 body.exprs
+-- an expression is no jump to a label, or is enclosed by a loop or a block with this label
+abbrev pub IsJumpInside : Body → ℕ → Expression → Type 0
+IsJumpInside body e node = (label : LabelId) → jump_label node ≡ Some label → IsEnclosed body label (Expr e)

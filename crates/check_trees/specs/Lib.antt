@@ -1,3 +1,4 @@
+pub mod First
 pub mod Tree
 pub mod Jumps
 pub mod Ellipsis

@@ -1,6 +1,2 @@
 -- What the tables hold that the walks over a body keep. No contract of a public function cites it.
-pub mod Facts
-pub mod Heights
-pub mod Holders
-pub mod Reach
-pub mod Tops
+pub mod Walks

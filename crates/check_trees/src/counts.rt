@@ -1,6 +1,6 @@
 //! How often each node of a body occurs as a child of another node.
 ghost use Rattle.std.specs.Prelude.{◌≡◌, ℕ, ◌<◌, List, [], length, IfOk};
-ghost use Rattle.check_trees.specs.inner.Holders.{kept_count, AreCounts, AreTimes};
+ghost use Rattle.check_trees.specs.inner.Walks.{entry_of, AreCounts, AreTimes};
 ghost use Rattle.check_trees.specs.Tree.{held_pairs};
 
 use crate::BodyNode;
@@ -89,7 +89,7 @@ impl NodeCounts {
 
     /// How often a node occurs as a child; 0 for a node that the body doesn't have.
     pub(crate) fn count(&self, node: BodyNode) -> u64
-        ensures { result ≡ kept_count self.now node }
+        ensures { result ≡ entry_of self.now.exprs.items self.now.pats.items 0 node }
     {
         let counts = match node {
             BodyNode::Expr(_) => self.exprs.as_slice(),

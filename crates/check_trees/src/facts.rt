@@ -1,7 +1,6 @@
 //! Facts about a body's nodes that are computed before the walk over its tree.
 ghost use Rattle.std.specs.Prelude.{◌≡◌, true, IfOk};
-ghost use Rattle.check_trees.specs.inner.Facts.{AreFacts};
-ghost use Rattle.check_trees.specs.inner.Holders.{is_node};
+ghost use Rattle.check_trees.specs.inner.Walks.{is_node, AreFacts};
 ghost use Rattle.check_trees.specs.Tree.{has_one_holder};
 
 use crate::BodyNode;
@@ -33,7 +32,7 @@ impl Facts {
     /// Whether a node is the root or a parameter, or occurs at most once as a child.
     pub(crate) fn has_one_holder(&self, body: &Body, node: BodyNode) -> bool
         requires facts { AreFacts body.now self.now }
-        requires there { is_node body.now node ≡ true }
+        requires there { is_node body.now.exprs body.now.pats node ≡ true }
         ensures { result ≡ has_one_holder body.now node }
     {
         is_top(body, self.tops.as_slice(), node) || self.counts.count(node) <= 1

@@ -1,6 +1,7 @@
 //! The height of each node of a body: the length of the longest path down from it.
-ghost use Rattle.std.specs.Prelude.{◌≡◌, ◌==◌, ◌&&◌, if◌then◌else◌, ℕ, length, nat_lt, slice_index_or, IfOk, OnOk};
-ghost use Rattle.check_trees.specs.inner.Heights.{known_of, noted_of, AreHeights, AreLevels, AreSettled, IsHeight, LeavesNoneOpen};
+ghost use Rattle.std.specs.Prelude.{◌≡◌, ◌==◌, ◌&&◌, if◌then◌else◌, ℕ, length, nat_lt, slice_index_or, IfOk, IfSome, OnOk};
+ghost use Rattle.check_trees.specs.Tree.{same_node};
+ghost use Rattle.check_trees.specs.inner.Walks.{is_node, known_of, AreHeights, AreLevels, AreSettled, IsHeight, LeavesNoneOpen};
 
 use crate::BodyNode;
 use crate::held::held_by;
@@ -64,7 +65,7 @@ impl Heights {
 
     /// Stores what is known of a node's height.
     fn note(&mut self, node: BodyNode, known: Known)
-        ensures { (other : BodyNode) → known_of self.new other ≡ noted_of self.old node known other }
+        ensures { (other : BodyNode) → known_of self.new other ≡ (if same_node other node && is_node self.old.exprs.items self.old.pats.items node then known else known_of self.old other) }
     {
         match node {
             BodyNode::Expr(e) => note_at(&mut self.exprs, e, known),
@@ -85,7 +86,7 @@ pub(crate) fn height(
 ) -> Result<Option<u64>, NoMemory>
     requires { AreHeights body.now heights.old }
     ensures heights { OnOk result (AreHeights body.now heights.new) }
-    ensures closed { IfOk result (λ found. LeavesNoneOpen heights.old heights.new found) }
+    ensures closed { IfOk result (λ found. IfSome found (λ _. LeavesNoneOpen heights.old heights.new)) }
     ensures height { IfOk result (λ found. IsHeight body.now heights.old budget node found) }
 {
     match heights.known(node) {
@@ -118,7 +119,7 @@ fn levels_of(
 ) -> Result<Option<u64>, NoMemory>
     requires { AreHeights body.now heights.old }
     ensures heights { OnOk result (AreHeights body.now heights.new) }
-    ensures closed { IfOk result (λ found. LeavesNoneOpen heights.old heights.new found) }
+    ensures closed { IfOk result (λ found. IfSome found (λ _. LeavesNoneOpen heights.old heights.new)) }
     ensures levels { IfOk result (λ found. AreLevels body.now heights.old budget nodes.now found) }
 {
     let mut levels = 0;

@@ -1,6 +1,6 @@
 //! The children of a body's nodes, and its pairs of child and parent.
 ghost use Rattle.std.specs.Prelude.{◌≡◌, ◌++◌, map, IfOk, OnOk};
-ghost use Rattle.check_trees.specs.Tree.{held_by, held_by_expr, held_by_pat, held_pairs, pairs_of_exprs, pairs_of_pats, with_holder};
+ghost use Rattle.check_trees.specs.Tree.{held_by, held_by_expr, held_by_pat, held_pairs, pairs_of, with_holder};
 
 use crate::BodyNode;
 use crate::nodes::{push_children, push_inner_exprs, push_patterns, push_subpatterns};
@@ -29,7 +29,7 @@ fn add_pats(nodes: &mut Vec<BodyNode>, ids: &[u64]) -> Result<(), NoMemory>
 
 /// The children of an expression: expressions, then patterns.
 fn held_by_expr(alloc: Global, node: &Expr) -> Result<Vec<BodyNode>, NoMemory>
-    ensures { IfOk result (λ nodes. nodes.items ≡ held_by_expr (Some node.now)) }
+    ensures { IfOk result (λ nodes. nodes.items ≡ held_by_expr node.now) }
 {
     let mut children = Vec::new(alloc);
     push_children(&mut children, node)?;
@@ -43,7 +43,7 @@ fn held_by_expr(alloc: Global, node: &Expr) -> Result<Vec<BodyNode>, NoMemory>
 
 /// The children of a pattern: subpatterns, then expressions.
 fn held_by_pat(alloc: Global, node: &Pat) -> Result<Vec<BodyNode>, NoMemory>
-    ensures { IfOk result (λ nodes. nodes.items ≡ held_by_pat (Some node.now)) }
+    ensures { IfOk result (λ nodes. nodes.items ≡ held_by_pat node.now) }
 {
     let mut parts = Vec::new(alloc);
     push_subpatterns(&mut parts, node)?;
@@ -92,7 +92,7 @@ fn add_expr(
     e: u64,
     node: &Expr,
 ) -> Result<(), NoMemory>
-    ensures { OnOk result (pairs.new.items ≡ pairs.old.items ++ with_holder (BodyNode.Expr e) (held_by_expr (Some node.now))) }
+    ensures { OnOk result (pairs.new.items ≡ pairs.old.items ++ with_holder (BodyNode.Expr e) (held_by_expr node.now)) }
 {
     let nodes = held_by_expr(alloc, node)?;
     add_pairs(pairs, BodyNode::Expr(e), nodes.as_slice())
@@ -105,7 +105,7 @@ fn add_pat(
     p: u64,
     node: &Pat,
 ) -> Result<(), NoMemory>
-    ensures { OnOk result (pairs.new.items ≡ pairs.old.items ++ with_holder (BodyNode.Pat p) (held_by_pat (Some node.now))) }
+    ensures { OnOk result (pairs.new.items ≡ pairs.old.items ++ with_holder (BodyNode.Pat p) (held_by_pat node.now)) }
 {
     let nodes = held_by_pat(alloc, node)?;
     add_pairs(pairs, BodyNode::Pat(p), nodes.as_slice())
@@ -117,7 +117,7 @@ fn add_pairs_of_exprs(
     pairs: &mut Vec<(BodyNode, BodyNode)>,
     exprs: &[Expr],
 ) -> Result<(), NoMemory>
-    ensures { OnOk result (pairs.new.items ≡ pairs.old.items ++ pairs_of_exprs 0 exprs.now) }
+    ensures { OnOk result (pairs.new.items ≡ pairs.old.items ++ pairs_of BodyNode.Expr held_by_expr 0 exprs.now) }
 {
     for (i, node) in exprs.iter().enumerate() {
         add_expr(alloc, pairs, i as u64, node)?;
@@ -131,7 +131,7 @@ fn add_pairs_of_pats(
     pairs: &mut Vec<(BodyNode, BodyNode)>,
     pats: &[Pat],
 ) -> Result<(), NoMemory>
-    ensures { OnOk result (pairs.new.items ≡ pairs.old.items ++ pairs_of_pats 0 pats.now) }
+    ensures { OnOk result (pairs.new.items ≡ pairs.old.items ++ pairs_of BodyNode.Pat held_by_pat 0 pats.now) }
 {
     for (i, node) in pats.iter().enumerate() {
         add_pat(alloc, pairs, i as u64, node)?;

@@ -1,6 +1,7 @@
 //! The first parent (holder) of each node of a body.
-ghost use Rattle.std.specs.Prelude.{◌≡◌, ℕ, ◌<◌, List, [], length, slice_index_or, IfOk};
-ghost use Rattle.check_trees.specs.inner.Holders.{kept_holder, noted, AreFirstHolders, AreHolders};
+ghost use Rattle.std.specs.Option.{option_or};
+ghost use Rattle.std.specs.Prelude.{◌≡◌, ℕ, ◌<◌, ◌==◌, if◌then◌else◌, List, [], length, slice_index_or, IfOk};
+ghost use Rattle.check_trees.specs.inner.Walks.{entry_of, AreFirstHolders, AreHolders};
 ghost use Rattle.check_trees.specs.Tree.{held_pairs};
 
 use crate::BodyNode;
@@ -16,7 +17,7 @@ pub(crate) struct Holders {
 
 /// Stores a parent at an index that has none yet.
 fn note_holder(slots: &mut [Option<BodyNode>], place: usize, holder: BodyNode)
-    ensures { (k : ℕ) → k < length slots.old → slice_index_or slots.new k None ≡ noted place holder slots.old k }
+    ensures { (k : ℕ) → k < length slots.old → slice_index_or slots.new k None ≡ (if k == place then option_or (slice_index_or slots.old k None) (Some holder) else slice_index_or slots.old k None) }
 {
     if place < slots.len() && slots[place].is_none() {
         slots[place] = Some(holder);
@@ -92,7 +93,7 @@ impl Holders {
 
     /// The first parent of a node; none for a node that the body doesn't have.
     pub(crate) fn holder(&self, node: BodyNode) -> Option<BodyNode>
-        ensures { result ≡ kept_holder self.now node }
+        ensures { result ≡ entry_of self.now.exprs.items self.now.pats.items None node }
     {
         let slots = match node {
             BodyNode::Expr(_) => self.exprs.as_slice(),

@@ -1,10 +1,9 @@
 //! Whether each jump names the label of an enclosing loop or block.
-ghost use Rattle.std.specs.Prelude.{◌≡◌, ◌<◌, length, true, IfOk};
+ghost use Rattle.std.specs.Prelude.{◌≡◌, ◌<◌, length, Decides, IfOk};
 ghost use Rattle.world.specs.Nodes.{jump_label, scope_label};
-ghost use Rattle.check_trees.specs.inner.Holders.{is_node, AreHolders};
-ghost use Rattle.check_trees.specs.Jumps.{is_enclosed, is_jump_inside, is_label, is_labelled, wrong_jump};
-ghost use Rattle.check_trees.specs.inner.Tops.{AreTops};
-ghost use Rattle.world.specs.Failing.{first_failing};
+ghost use Rattle.check_trees.specs.First.{FindsFirst};
+ghost use Rattle.check_trees.specs.inner.Walks.{AreHolders, AreTops};
+ghost use Rattle.check_trees.specs.Jumps.{is_label, is_labelled, IsEnclosed, IsJumpInside};
 
 use crate::BodyNode;
 use crate::held::held_pairs;
@@ -42,7 +41,7 @@ fn is_enclosed(body: &Body, holders: &Holders, tops: &[bool], label: LabelId, e:
     requires holders { AreHolders body.now holders.now }
     requires tops { AreTops body.now tops.now }
     requires there { e < length body.now.exprs }
-    ensures { result ≡ is_enclosed body.now label 401 (BodyNode.Expr e) }
+    ensures { Decides result (IsEnclosed body.now label (BodyNode.Expr e)) }
 {
     let mut node = BodyNode::Expr(e);
     for step in 0..401u64 {
@@ -65,7 +64,7 @@ fn is_jump_inside(body: &Body, holders: &Holders, tops: &[bool], e: u64, node: &
     requires holders { AreHolders body.now holders.now }
     requires tops { AreTops body.now tops.now }
     requires there { e < length body.now.exprs }
-    ensures { result ≡ is_jump_inside body.now e node.now }
+    ensures { Decides result (IsJumpInside body.now e node.now) }
 {
     match jump_label(node) {
         None => true,
@@ -78,7 +77,7 @@ fn wrong_jump_among(body: &Body, holders: &Holders, tops: &[bool], exprs: &[Expr
     requires all { exprs.now ≡ body.now.exprs }
     requires holders { AreHolders body.now holders.now }
     requires tops { AreTops body.now tops.now }
-    ensures { result ≡ first_failing (is_jump_inside body.now) 0 exprs.now }
+    ensures { FindsFirst (IsJumpInside body.now) exprs.now result }
 {
     for (i, node) in exprs.iter().enumerate() {
         if !is_jump_inside(body, holders, tops, i as u64, node) {
@@ -91,7 +90,7 @@ fn wrong_jump_among(body: &Body, holders: &Holders, tops: &[bool], exprs: &[Expr
 /// The first jump of a body to a label that no enclosing loop or block has. It fails only for want of
 /// memory.
 pub fn wrong_jump(alloc: Global, body: &Body) -> Result<Option<u64>, NoMemory>
-    ensures { IfOk result (λ found. found ≡ wrong_jump body.now) }
+    ensures { IfOk result (FindsFirst (IsJumpInside body.now) body.now.exprs) }
 {
     let pairs = held_pairs(alloc, body)?;
     let holders = Holders::of(alloc, body, pairs.as_slice())?;

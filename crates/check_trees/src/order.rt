@@ -1,12 +1,9 @@
 //! The first node at which a body is not a tree.
-ghost use Rattle.std.specs.Prelude.{◌≡◌, ◌<◌, ◌&&◌, length, nat_lt, slice_get, true, IfOk, OnOk};
-ghost use Rattle.std.specs.List.{list_all};
+ghost use Rattle.std.specs.Prelude.{◌≡◌, ◌<◌, length, slice_get, true, Decides, IfOk, OnOk};
 ghost use Rattle.world.specs.Nodes.{children_of, patterns_of, subpatterns_of};
-ghost use Rattle.check_trees.specs.inner.Facts.{AreFacts};
-ghost use Rattle.check_trees.specs.inner.Heights.{AreSettled};
-ghost use Rattle.check_trees.specs.inner.Reach.{AreReaches};
-ghost use Rattle.world.specs.Failing.{first_failing};
-ghost use Rattle.check_trees.specs.Tree.{is_expr_in_order, is_pat_in_order, is_shallow, stands_inside, wrong_node};
+ghost use Rattle.check_trees.specs.First.{FindsFirst};
+ghost use Rattle.check_trees.specs.inner.Walks.{AreFacts, AreReaches, AreSettled};
+ghost use Rattle.check_trees.specs.Tree.{AreBelow, FindsWrongNode, HoldBelow, IsExprInOrder, IsPatInOrder, IsShallow};
 
 use crate::BodyNode;
 use crate::facts::Facts;
@@ -18,7 +15,7 @@ use world::{Body, Expr, NoMemory, Pat};
 
 /// Whether all these ids are below a limit.
 fn are_below(ids: &[u64], limit: u64) -> bool
-    ensures { result ≡ list_all (λ id. nat_lt id limit) ids.now }
+    ensures { Decides result (AreBelow ids.now limit) }
 {
     ids.iter().all(|id| *id < limit)
 }
@@ -32,7 +29,7 @@ fn is_shallow(
 ) -> Result<bool, NoMemory>
     requires { AreSettled body.now heights.old }
     ensures settled { IfOk result (λ shallow. shallow ≡ true → AreSettled body.now heights.new) }
-    ensures shallow { IfOk result (λ shallow. shallow ≡ is_shallow body.now node) }
+    ensures shallow { IfOk result (λ shallow. Decides shallow (IsShallow body.now node)) }
 {
     match height(alloc, body, heights, node, 401)? {
         Some(_) => Ok(true),
@@ -42,7 +39,7 @@ fn is_shallow(
 
 /// Whether the direct child expressions of an expression have lower ids than it.
 fn are_children_before(alloc: Global, e: u64, node: &Expr) -> Result<bool, NoMemory>
-    ensures { IfOk result (λ before. before ≡ list_all (λ child. nat_lt child e) (children_of node.now)) }
+    ensures { IfOk result (λ before. Decides before (AreBelow (children_of node.now) e)) }
 {
     let mut children = Vec::new(alloc);
     push_children(&mut children, node)?;
@@ -51,7 +48,7 @@ fn are_children_before(alloc: Global, e: u64, node: &Expr) -> Result<bool, NoMem
 
 /// Whether the direct subpatterns of a pattern have lower ids than it.
 fn are_parts_before(alloc: Global, p: u64, node: &Pat) -> Result<bool, NoMemory>
-    ensures { IfOk result (λ before. before ≡ list_all (λ child. nat_lt child p) (subpatterns_of node.now)) }
+    ensures { IfOk result (λ before. Decides before (AreBelow (subpatterns_of node.now) p)) }
 {
     let mut parts = Vec::new(alloc);
     push_subpatterns(&mut parts, node)?;
@@ -68,9 +65,9 @@ fn are_inner_before(
 ) -> Result<bool, NoMemory>
     requires reaches { AreReaches body.now reaches.old }
     requires at { slice_get body.now.exprs e ≡ Some node.now }
-    requires shallow { is_shallow body.now (BodyNode.Expr e) ≡ true }
+    requires shallow { IsShallow body.now (BodyNode.Expr e) }
     ensures reaches { OnOk result (AreReaches body.now reaches.new) }
-    ensures before { IfOk result (λ before. before ≡ list_all (stands_inside body.now e 400) (patterns_of node.now)) }
+    ensures before { IfOk result (λ before. Decides before (HoldBelow body.now (patterns_of node.now) e)) }
 {
     let mut patterns = Vec::new(alloc);
     push_patterns(&mut patterns, node)?;
@@ -95,7 +92,7 @@ fn is_expr_in_order(
     requires at { slice_get body.now.exprs e ≡ Some node.now }
     ensures settled { IfOk result (λ order. order ≡ true → AreSettled body.now heights.new) }
     ensures reaches { OnOk result (AreReaches body.now reaches.new) }
-    ensures order { IfOk result (λ order. order ≡ is_expr_in_order body.now e node.now) }
+    ensures order { IfOk result (λ order. Decides order (IsExprInOrder body.now e node.now)) }
 {
     if !is_shallow(alloc, body, heights, BodyNode::Expr(e))? {
         return Ok(false);
@@ -119,7 +116,7 @@ fn is_pat_in_order(
     requires heights { AreSettled body.now heights.old }
     requires there { p < length body.now.pats }
     ensures settled { IfOk result (λ order. order ≡ true → AreSettled body.now heights.new) }
-    ensures order { IfOk result (λ order. order ≡ is_pat_in_order body.now p node.now) }
+    ensures order { IfOk result (λ order. Decides order (IsPatInOrder body.now p node.now)) }
 {
     let before = are_parts_before(alloc, p, node)?;
     let once = facts.has_one_holder(body, BodyNode::Pat(p));
@@ -142,7 +139,7 @@ fn wrong_expr_among(
     requires reaches { AreReaches body.now reaches.old }
     ensures settled { IfOk result (λ found. found ≡ None → AreSettled body.now heights.new) }
     ensures reaches { OnOk result (AreReaches body.now reaches.new) }
-    ensures first { IfOk result (λ found. found ≡ first_failing (is_expr_in_order body.now) 0 exprs.now) }
+    ensures first { IfOk result (FindsFirst (IsExprInOrder body.now) exprs.now) }
 {
     for (i, node) in exprs.iter().enumerate() {
         if !is_expr_in_order(alloc, body, facts, heights, reaches, i as u64, node)? {
@@ -163,7 +160,7 @@ fn wrong_pat_among(
     requires all { pats.now ≡ body.now.pats }
     requires facts { AreFacts body.now facts.now }
     requires heights { AreSettled body.now heights.old }
-    ensures { IfOk result (λ found. found ≡ first_failing (is_pat_in_order body.now) 0 pats.now) }
+    ensures { IfOk result (FindsFirst (IsPatInOrder body.now) pats.now) }
 {
     for (i, node) in pats.iter().enumerate() {
         if !is_pat_in_order(alloc, body, facts, heights, i as u64, node)? {
@@ -178,7 +175,7 @@ fn wrong_pat_among(
 /// a child, or is the root or a parameter; and if no path of more than 400 steps leads down from it. It
 /// fails only for want of memory.
 pub fn wrong_node(alloc: Global, body: &Body) -> Result<Option<BodyNode>, NoMemory>
-    ensures { IfOk result (λ found. found ≡ wrong_node body.now) }
+    ensures { IfOk result (FindsWrongNode body.now) }
 {
     let facts = Facts::of(alloc, body)?;
     let mut heights = Heights::new(alloc, body)?;

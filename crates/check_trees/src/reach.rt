@@ -1,8 +1,8 @@
 //! The greatest id of the expressions inside each pattern of a body.
-ghost use Rattle.std.specs.Prelude.{◌≡◌, ◌==◌, ◌&&◌, if◌then◌else◌, ℕ, false, length, nat_lt, slice_index_or, IfOk, OnOk};
-ghost use Rattle.std.specs.List.{list_all};
-ghost use Rattle.check_trees.specs.inner.Reach.{any_path, is_before, kept_reach, AreReaches, HasReach, HaveReach};
-ghost use Rattle.check_trees.specs.Tree.{has_path, inner_exprs_at, subpatterns_at};
+ghost use Rattle.std.specs.Prelude.{◌≡◌, ◌==◌, ◌&&◌, if◌then◌else◌, ℕ, List, [], ◌∷◌, length, nat_lt, slice_index_or, Decides, IfOk, OnOk};
+ghost use Rattle.check_trees.specs.First.{Has};
+ghost use Rattle.check_trees.specs.inner.Walks.{is_before, AreReaches, HaveReach};
+ghost use Rattle.check_trees.specs.Tree.{inner_exprs_at, subpatterns_at, AreBelow, HasPath};
 
 use crate::BodyNode;
 use crate::nodes::{push_inner_exprs, push_subpatterns};
@@ -66,7 +66,7 @@ impl Reaches {
 
     /// The reach of a pattern that was walked already.
     fn kept(&self, p: u64) -> Option<Reach>
-        ensures { result ≡ kept_reach self.now p }
+        ensures { result ≡ slice_index_or self.now.pats.items p None }
     {
         let place = p as usize;
         if place < self.pats.len() {
@@ -79,7 +79,7 @@ impl Reaches {
     /// Stores the reach of a pattern.
     fn keep(&mut self, body: &Body, p: u64, reach: Reach)
         requires kept { AreReaches body.now self.old }
-        requires reach { HasReach body.now p reach }
+        requires reach { HaveReach body.now (p ∷ []) reach }
         ensures { AreReaches body.now self.new }
     {
         let _ = body;
@@ -89,7 +89,7 @@ impl Reaches {
 
 /// The greatest of these ids.
 fn reach_of_exprs(ids: &[u64]) -> Reach
-    ensures { (e : ℕ) → is_before result e ≡ list_all (λ inner. nat_lt inner e) ids.now }
+    ensures { (e : ℕ) → Decides (is_before result e) (AreBelow ids.now e) }
 {
     let mut reach = Reach::Nothing;
     for (i, id) in ids.iter().enumerate() {
@@ -131,9 +131,9 @@ fn reach_of_pat(
     budget: u64,
 ) -> Result<Reach, NoMemory>
     requires reaches { AreReaches body.now reaches.old }
-    requires shallow { has_path body.now budget (BodyNode.Pat p) ≡ false }
+    requires shallow { HasPath body.now budget (BodyNode.Pat p) → ⊥ }
     ensures reaches { OnOk result (AreReaches body.now reaches.new) }
-    ensures reach { IfOk result (λ reach. HasReach body.now p reach) }
+    ensures reach { IfOk result (λ reach. HaveReach body.now (p ∷ []) reach) }
 {
     if let Some(reach) = reaches.kept(p) {
         return Ok(reach);
@@ -156,7 +156,7 @@ pub(crate) fn reach_of_pats(
     budget: u64,
 ) -> Result<Reach, NoMemory>
     requires reaches { AreReaches body.now reaches.old }
-    requires shallow { any_path body.now budget ids.now ≡ false }
+    requires shallow { (p : ℕ) → Has ids.now p → HasPath body.now budget (BodyNode.Pat p) → ⊥ }
     ensures reaches { OnOk result (AreReaches body.now reaches.new) }
     ensures reach { IfOk result (λ reach. HaveReach body.now ids.now reach) }
 {

@@ -1,7 +1,6 @@
 //! Which nodes of a body are its root or its parameters.
 ghost use Rattle.std.specs.Prelude.{◌≡◌, ℕ, ◌<◌, List, [], length, true, IfOk};
-ghost use Rattle.check_trees.specs.inner.Holders.{is_node};
-ghost use Rattle.check_trees.specs.inner.Tops.{AreMarked, AreTops};
+ghost use Rattle.check_trees.specs.inner.Walks.{is_node, AreMarked, AreTops};
 ghost use Rattle.check_trees.specs.Tree.{is_top};
 
 use crate::BodyNode;
@@ -33,7 +32,7 @@ pub(crate) fn top_marks(alloc: Global, body: &Body) -> Result<Vec<bool>, NoMemor
 /// Whether a node is the root or the pattern of a parameter.
 pub(crate) fn is_top(body: &Body, marks: &[bool], node: BodyNode) -> bool
     requires marks { AreTops body.now marks.now }
-    requires node { is_node body.now node ≡ true }
+    requires node { is_node body.now.exprs body.now.pats node ≡ true }
     ensures { result ≡ is_top body.now node }
 {
     match node {

@@ -5,7 +5,7 @@ use Rattle.serde_json.specs.Data.{Data}
 use Rattle.serde_json.specs.Read.{read}
 use Rattle.streams.specs.Faults.{HasCause}
 use Rattle.world.specs.declared.database.HirDatabase.{HirDatabase}
-use Rattle.world_check.specs.Rows.{first_failure}
+use Rattle.world_check.specs.Rows.{Holds}
 use Rattle.world_json.specs.declared.goal.Goal.{Goal}
 use Rattle.world_json.specs.Input.{world_of}
 use Rattle.mirconst_input.specs.Goals.{is_misfit}
@@ -71,13 +71,13 @@ check_refused bytes tree world goals NoMemory utf8 json stands is = tt
 
 -- the status for a wrong goal is one of the bytes that the world and the goals were read from
 pub goal_refused : (bytes : List ℕ) (tree : Data) (passed world : HirDatabase) (goals : List Goal) (place : ℕ) (status : Status) → IsUtf8 bytes → read bytes ≡ Some tree →
-    world_of tree ≡ Ok (world, goals) → passed ≡ world → first_failure world ≡ None → position (is_misfit passed) goals ≡ Some place → IsOfGoal place status →
+    world_of tree ≡ Ok (world, goals) → passed ≡ world → Holds world → position (is_misfit passed) goals ≡ Some place → IsOfGoal place status →
     IsOfInput bytes status
-goal_refused bytes tree passed world goals place Values utf8 json stands same passes first is = absurd is
-goal_refused bytes tree passed world goals place Errors utf8 json stands same passes first is = absurd is
-goal_refused bytes tree passed world goals place BadWords utf8 json stands same passes first is = absurd is
-goal_refused bytes tree passed world goals place NotJson utf8 json stands same passes first is = absurd is
-goal_refused bytes tree passed world goals place (NotAWorld path) utf8 json stands same passes first is =
+goal_refused bytes tree passed world goals place Values utf8 json stands same holds first is = absurd is
+goal_refused bytes tree passed world goals place Errors utf8 json stands same holds first is = absurd is
+goal_refused bytes tree passed world goals place BadWords utf8 json stands same holds first is = absurd is
+goal_refused bytes tree passed world goals place NotJson utf8 json stands same holds first is = absurd is
+goal_refused bytes tree passed world goals place (NotAWorld path) utf8 json stands same holds first is =
     inr (record {
       tree = tree;
       world = world;
@@ -85,12 +85,12 @@ goal_refused bytes tree passed world goals place (NotAWorld path) utf8 json stan
       place = place;
       json = record { utf8 = utf8; json = json };
       stands = stands;
-      passes = passes;
+      holds = holds;
       first = subst (λ (db : HirDatabase). position (is_misfit db) goals ≡ Some place) same first;
       named = is;
     })
-goal_refused bytes tree passed world goals place (BadWorld invalid) utf8 json stands same passes first is = absurd is
-goal_refused bytes tree passed world goals place TooLong utf8 json stands same passes first is = absurd is
-goal_refused bytes tree passed world goals place ReadFault utf8 json stands same passes first is = absurd is
-goal_refused bytes tree passed world goals place WriteFault utf8 json stands same passes first is = absurd is
-goal_refused bytes tree passed world goals place NoMemory utf8 json stands same passes first is = tt
+goal_refused bytes tree passed world goals place (BadWorld invalid) utf8 json stands same holds first is = absurd is
+goal_refused bytes tree passed world goals place TooLong utf8 json stands same holds first is = absurd is
+goal_refused bytes tree passed world goals place ReadFault utf8 json stands same holds first is = absurd is
+goal_refused bytes tree passed world goals place WriteFault utf8 json stands same holds first is = absurd is
+goal_refused bytes tree passed world goals place NoMemory utf8 json stands same holds first is = tt

@@ -3,7 +3,7 @@ use Rattle.std.specs.Prelude.{◌≡◌, ℕ, ◌≤◌, List, [], ◌++◌, len
 use Rattle.serde_json.specs.Data.{Data}
 use Rattle.serde_json.specs.Read.{read}
 use Rattle.world.specs.declared.database.HirDatabase.{HirDatabase}
-use Rattle.world_check.specs.Rows.{first_failure}
+use Rattle.world_check.specs.Rows.{Holds, IsFirstFailure}
 use Rattle.world_check.specs.declared.fault.InvalidWorld.{InvalidWorld}
 use Rattle.world_json.specs.declared.goal.Goal.{Goal}
 use Rattle.world_json.specs.Input.{world_of}
@@ -42,7 +42,7 @@ pub record StandsFor (bytes : List ℕ) (world : HirDatabase) (goals : List Goal
   pub utf8 : IsUtf8 bytes
   pub json : read bytes ≡ Some tree
   pub stands : world_of tree ≡ Ok (world, goals)
-  pub passes : first_failure world ≡ None
+  pub holds : Holds world
   pub fit : position (is_misfit world) goals ≡ None
 
 -- bytes are the text of a JSON tree, in UTF-8
@@ -74,7 +74,7 @@ pub record HasMisfitGoal (bytes path : List ℕ) : Type 0 where
   pub place : ℕ
   pub json : IsJson bytes tree
   pub stands : world_of tree ≡ Ok (world, goals)
-  pub passes : first_failure world ≡ None
+  pub holds : Holds world
   pub first : position (is_misfit world) goals ≡ Some place
   pub named : path ≡ goal_path place
 
@@ -86,4 +86,4 @@ pub record HasFailure (bytes : List ℕ) (invalid : InvalidWorld) : Type 0 where
   pub goals : List Goal
   pub json : IsJson bytes tree
   pub stands : world_of tree ≡ Ok (world, goals)
-  pub fails : first_failure world ≡ Some (invalid.row, invalid.place)
+  pub fails : IsFirstFailure world invalid.row invalid.place

@@ -3,7 +3,7 @@ use Rattle.std.specs.Prelude.{◌≡◌, ℕ, ◌<◌, List, length, drop, Optio
 use Rattle.serde_json.specs.Data.{Data}
 use Rattle.streams.specs.Faults.{HasCause}
 use Rattle.world.specs.declared.database.HirDatabase.{HirDatabase}
-use Rattle.world_check.specs.Rows.{first_failure}
+use Rattle.world_check.specs.Rows.{IsFirstFailure}
 use Rattle.world_check.specs.declared.fault.CheckFault.{CheckFault}
 use Rattle.world_check.specs.declared.fault.CheckFault.TheVariants as check
 use Rattle.world_json.specs.Input.{world_of}
@@ -47,7 +47,7 @@ IsOfTree tree status = ⊥
 
 -- the status with which a world ends a run: it fails the check of its conditions, first at this condition and place
 abbrev pub IsOfCheck : HirDatabase → Status → Type 0
-IsOfCheck world (BadWorld invalid) = first_failure world ≡ Some (invalid.row, invalid.place)
+IsOfCheck world (BadWorld invalid) = IsFirstFailure world invalid.row invalid.place
 IsOfCheck world NoMemory = Unit {0}
 IsOfCheck world status = ⊥
 

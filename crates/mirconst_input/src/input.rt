@@ -6,7 +6,7 @@ ghost use Rattle.serde_json.specs.View.{view};
 ghost use Rattle.mirconst_input.specs.Goals.{are_within, is_misfit, is_variant};
 ghost use Rattle.mirconst_input.specs.Input.{StandsFor, goal_path};
 ghost use Rattle.mirconst_input.specs.Refusals.{IsOfInput, IsOfTree, IsOfCheck, IsOfFault, IsOfGoal};
-ghost use Rattle.world_check.specs.Rows.{first_failure};
+ghost use Rattle.world_check.specs.Rows.{Holds};
 ghost use Rattle.world_json.specs.Input.{world_of};
 
 use crate::Status;
@@ -47,7 +47,7 @@ fn world_and_goals(alloc: Global, tree: Value) -> Result<(HirDatabase, List<Goal
 /// Checks the conditions on a world.
 fn checked(alloc: Global, db: HirDatabase) -> Result<CheckedWorld, Status>
     ensures same { IfOk result (λ world. world ≡ db) }
-    ensures passes { OnOk result (first_failure db ≡ None) }
+    ensures holds { OnOk result (Holds db) }
     ensures refused { IfErr result (λ status. IsOfCheck db status) }
 {
     match CheckedWorld::new(alloc, db) {

@@ -1,14 +1,14 @@
 -- Where no place of the list fails a row of the check, every place meets it: one that the world doesn't have is asked nothing.
-use Rattle.std.proofs.Common.{◌≡◌, ℕ, zero, suc, ◌+◌, Bool, true, false, cond, not, Option, Some, None, List, [], ◌∷◌, ◌++◌, refl, sym, ◌∙◌, ap, arith}
-use Rattle.std.proofs.lemmas.List.Folds.{find-append}
-use Rattle.std.specs.List.{find, slice_get}
+use Rattle.std.proofs.Common.{◌≡◌, ℕ, zero, suc, ◌+◌, Bool, true, false, Option, Some, None, List, [], ◌∷◌, ◌++◌, IfSome, refl, sym, ◌∙◌, ap, arith, subst}
+use Rattle.std.specs.List.{slice_get}
 use Rattle.std.specs.Option.{is_some}
 use Rattle.world.specs.declared.body.Body.{Body}
 use Rattle.world.specs.declared.database.BodyRow.{BodyRow}
 use Rattle.world.specs.declared.database.HirDatabase.{HirDatabase}
-use Rattle.world_check.specs.Meets.{if_there}
-use Rattle.world_check.specs.Rows.{failing_place, first_unmet}
-use Rattle.world_check.specs.Tests.{meets}
+use Rattle.check_trees.specs.Jumps.{IsJumpInside}
+use Rattle.check_trees.specs.Tree.{IsExprInOrder, IsPatInOrder}
+use Rattle.world_check.specs.Meets.{Meets, if_there}
+use Rattle.world_check.specs.Rows.{FindsFailing}
 use Rattle.world_check.specs.WorldPlaces.{named_functions, numbered, of_adts, of_bodies, of_body, of_code, of_items, of_keyed_rows, of_names, of_nodes, of_table, places}
 use Rattle.world_check.specs.declared.fault.CheckRow.{CheckRow}
 use Rattle.world_check.specs.declared.fault.CheckRow.TheVariants.{C1, C2, C3, C4, C5, C6, C7}
@@ -20,81 +20,63 @@ use Rattle.world_check.specs.declared.place.Place.{Place}
 use Rattle.world_check.specs.declared.place.Place.TheVariants.{Table, Row, Nodes, Node, Function}
 use Rattle.world_check.specs.declared.place.TableName.{TableName}
 use Rattle.world_check.specs.declared.place.TableName.TheVariants.{Crates, Functions, Consts, Statics, Structs, Unions, Enums, Variants, Traits, Aliases, TypeParams, ConstParams, Closures, Bodies, Layouts, Normals, Impls, ConstImpls}
-use Rattle.world_check.proofs.Passing.{neither}
+use Rattle.world_check.proofs.First.{apart, head}
+use Rattle.world_check.proofs.Searches.{at_numbered}
 
 -- Parts of a list in which nothing fails.
 
-apart : (p : Place → Bool) (xs ys : List Place) → find p (xs ++ ys) ≡ None → (find p xs ≡ None) × (find p ys ≡ None)
-apart p xs ys e = neither (find p xs) (find p ys) (sym (find-append p xs ys) ∙ e)
-
-head : (test : Place → Bool) (x : Place) (rest : List Place) → find (λ q. not (test q)) (x ∷ rest) ≡ None → (test x ≡ true) × (find (λ q. not (test q)) rest ≡ None)
-head test x rest e = by (test x) e
+-- an element of a list has the property, and so has a place past its end
+entry : {X : Type 0} (P : Place → Type 0) (at : ℕ → Place) (k : ℕ) (xs : List X) → FindsFailing P (numbered at 0 xs) None → (slice_get xs k ≡ None → P (at k)) → P (at k)
+entry {X} P at k xs clear absent = by (slice_get xs k) refl
   where
-    by : (b : Bool) → cond (not b) (Some x) (find (λ q. not (test q)) rest) ≡ None → (b ≡ true) × (find (λ q. not (test q)) rest ≡ None)
-    by true e = (refl, e)
-    by false e = cc
-
-element : {X : Type 0} (test : Place → Bool) (at : ℕ → Place) (i k : ℕ) (xs : List X) (x : X) → find (λ q. not (test q)) (numbered at i xs) ≡ None → slice_get xs k ≡ Some x → test (at (i + k)) ≡ true
-element test at i k [] x e there = cc
-element test at i zero (y ∷ ys) x e there =
-    let start : i + zero ≡ i = omega arith in
-    ap (λ j. test (at j)) start ∙ (head test (at i) (numbered at (i + 1) ys) e).0
-element test at i (suc k) (y ∷ ys) x e there =
-    let step : i + suc k ≡ i + 1 + k = omega arith in
-    ap (λ j. test (at j)) step ∙ element test at (i + 1) k ys x (head test (at i) (numbered at (i + 1) ys) e).1 there
-
--- an element of a list passes, and so does a place past its end
-entry : {X : Type 0} (test : Place → Bool) (at : ℕ → Place) (k : ℕ) (xs : List X) → find (λ q. not (test q)) (numbered at 0 xs) ≡ None → (slice_get xs k ≡ None → test (at k) ≡ true) → test (at k) ≡ true
-entry {X} test at k xs e absent = by (slice_get xs k) refl
-  where
-    by : (found : Option X) → slice_get xs k ≡ found → test (at k) ≡ true
+    by : (found : Option X) → slice_get xs k ≡ found → P (at k)
     by None there = absent there
     by (Some x) there =
-        let start : k ≡ 0 + k = omega arith in
-        ap (λ j. test (at j)) start ∙ element test at 0 k xs x e there
+        let start : 0 + k ≡ k = omega arith in
+        subst (λ j. P (at j)) start (clear k (at (0 + k)) (at_numbered at 0 k xs x there))
 
 -- nothing fails in any part of the list of all places
-record IsNowhere (p : Place → Bool) (world : HirDatabase) : Type 0 where
-  crates : find p (of_table Crates world.crates) ≡ None
-  functions : find p (of_table Functions world.functions) ≡ None
-  consts : find p (of_table Consts world.consts) ≡ None
-  statics : find p (of_table Statics world.statics) ≡ None
-  structs : find p (of_table Structs world.structs) ≡ None
-  unions : find p (of_table Unions world.unions) ≡ None
-  enums : find p (of_table Enums world.enums) ≡ None
-  variants : find p (of_table Variants world.variants) ≡ None
-  traits : find p (of_table Traits world.traits) ≡ None
-  aliases : find p (of_table Aliases world.aliases) ≡ None
-  type_params : find p (of_table TypeParams world.type_params) ≡ None
-  const_params : find p (of_table ConstParams world.const_params) ≡ None
-  closures : find p (of_table Closures world.closures) ≡ None
-  layouts : find p (of_table Layouts world.layouts) ≡ None
-  normals : find p (of_table Normals world.normals) ≡ None
-  impls : find p (of_table Impls world.impls) ≡ None
-  const_impls : find p (of_table ConstImpls world.const_impls) ≡ None
-  bodies : find p (Table Bodies ∷ of_bodies 0 world.bodies) ≡ None
-  named : find p named_functions ≡ None
+record IsNowhere (P : Place → Type 0) (world : HirDatabase) : Type 0 where
+  crates : FindsFailing P (of_table Crates world.crates) None
+  functions : FindsFailing P (of_table Functions world.functions) None
+  consts : FindsFailing P (of_table Consts world.consts) None
+  statics : FindsFailing P (of_table Statics world.statics) None
+  structs : FindsFailing P (of_table Structs world.structs) None
+  unions : FindsFailing P (of_table Unions world.unions) None
+  enums : FindsFailing P (of_table Enums world.enums) None
+  variants : FindsFailing P (of_table Variants world.variants) None
+  traits : FindsFailing P (of_table Traits world.traits) None
+  aliases : FindsFailing P (of_table Aliases world.aliases) None
+  type_params : FindsFailing P (of_table TypeParams world.type_params) None
+  const_params : FindsFailing P (of_table ConstParams world.const_params) None
+  closures : FindsFailing P (of_table Closures world.closures) None
+  layouts : FindsFailing P (of_table Layouts world.layouts) None
+  normals : FindsFailing P (of_table Normals world.normals) None
+  impls : FindsFailing P (of_table Impls world.impls) None
+  const_impls : FindsFailing P (of_table ConstImpls world.const_impls) None
+  bodies : FindsFailing P (Table Bodies ∷ of_bodies 0 world.bodies) None
+  named : FindsFailing P named_functions None
 
-nowhere : (p : Place → Bool) (world : HirDatabase) → find p (places world) ≡ None → IsNowhere p world
-nowhere p world e =
-    let a = apart p (of_items world) (of_adts world ++ (of_names world ++ (of_code world ++ (of_keyed_rows world ++ named_functions)))) e in
-    let b = apart p (of_adts world) (of_names world ++ (of_code world ++ (of_keyed_rows world ++ named_functions))) a.1 in
-    let c = apart p (of_names world) (of_code world ++ (of_keyed_rows world ++ named_functions)) b.1 in
-    let d = apart p (of_code world) (of_keyed_rows world ++ named_functions) c.1 in
-    let f = apart p (of_keyed_rows world) named_functions d.1 in
-    let code = apart p (of_table Closures world.closures) (Table Bodies ∷ of_bodies 0 world.bodies) d.0 in
-    let i1 = apart p (of_table Crates world.crates) ((of_table Functions world.functions) ++ ((of_table Consts world.consts) ++ (of_table Statics world.statics))) a.0 in
-    let i2 = apart p (of_table Functions world.functions) ((of_table Consts world.consts) ++ (of_table Statics world.statics)) i1.1 in
-    let i3 = apart p (of_table Consts world.consts) (of_table Statics world.statics) i2.1 in
-    let s1 = apart p (of_table Structs world.structs) ((of_table Unions world.unions) ++ ((of_table Enums world.enums) ++ (of_table Variants world.variants))) b.0 in
-    let s2 = apart p (of_table Unions world.unions) ((of_table Enums world.enums) ++ (of_table Variants world.variants)) s1.1 in
-    let s3 = apart p (of_table Enums world.enums) (of_table Variants world.variants) s2.1 in
-    let n1 = apart p (of_table Traits world.traits) ((of_table Aliases world.aliases) ++ ((of_table TypeParams world.type_params) ++ (of_table ConstParams world.const_params))) c.0 in
-    let n2 = apart p (of_table Aliases world.aliases) ((of_table TypeParams world.type_params) ++ (of_table ConstParams world.const_params)) n1.1 in
-    let n3 = apart p (of_table TypeParams world.type_params) (of_table ConstParams world.const_params) n2.1 in
-    let k1 = apart p (of_table Layouts world.layouts) ((of_table Normals world.normals) ++ ((of_table Impls world.impls) ++ (of_table ConstImpls world.const_impls))) f.0 in
-    let k2 = apart p (of_table Normals world.normals) ((of_table Impls world.impls) ++ (of_table ConstImpls world.const_impls)) k1.1 in
-    let k3 = apart p (of_table Impls world.impls) (of_table ConstImpls world.const_impls) k2.1 in
+nowhere : (P : Place → Type 0) (world : HirDatabase) → FindsFailing P (places world) None → IsNowhere P world
+nowhere P world all =
+    let a = apart P (of_items world) (of_adts world ++ (of_names world ++ (of_code world ++ (of_keyed_rows world ++ named_functions)))) all in
+    let b = apart P (of_adts world) (of_names world ++ (of_code world ++ (of_keyed_rows world ++ named_functions))) a.1 in
+    let c = apart P (of_names world) (of_code world ++ (of_keyed_rows world ++ named_functions)) b.1 in
+    let d = apart P (of_code world) (of_keyed_rows world ++ named_functions) c.1 in
+    let f = apart P (of_keyed_rows world) named_functions d.1 in
+    let code = apart P (of_table Closures world.closures) (Table Bodies ∷ of_bodies 0 world.bodies) d.0 in
+    let i1 = apart P (of_table Crates world.crates) ((of_table Functions world.functions) ++ ((of_table Consts world.consts) ++ (of_table Statics world.statics))) a.0 in
+    let i2 = apart P (of_table Functions world.functions) ((of_table Consts world.consts) ++ (of_table Statics world.statics)) i1.1 in
+    let i3 = apart P (of_table Consts world.consts) (of_table Statics world.statics) i2.1 in
+    let s1 = apart P (of_table Structs world.structs) ((of_table Unions world.unions) ++ ((of_table Enums world.enums) ++ (of_table Variants world.variants))) b.0 in
+    let s2 = apart P (of_table Unions world.unions) ((of_table Enums world.enums) ++ (of_table Variants world.variants)) s1.1 in
+    let s3 = apart P (of_table Enums world.enums) (of_table Variants world.variants) s2.1 in
+    let n1 = apart P (of_table Traits world.traits) ((of_table Aliases world.aliases) ++ ((of_table TypeParams world.type_params) ++ (of_table ConstParams world.const_params))) c.0 in
+    let n2 = apart P (of_table Aliases world.aliases) ((of_table TypeParams world.type_params) ++ (of_table ConstParams world.const_params)) n1.1 in
+    let n3 = apart P (of_table TypeParams world.type_params) (of_table ConstParams world.const_params) n2.1 in
+    let k1 = apart P (of_table Layouts world.layouts) ((of_table Normals world.normals) ++ ((of_table Impls world.impls) ++ (of_table ConstImpls world.const_impls))) f.0 in
+    let k2 = apart P (of_table Normals world.normals) ((of_table Impls world.impls) ++ (of_table ConstImpls world.const_impls)) k1.1 in
+    let k3 = apart P (of_table Impls world.impls) (of_table ConstImpls world.const_impls) k2.1 in
     record {
       crates = i1.0;
       functions = i2.0;
@@ -139,11 +121,17 @@ has_row world Normals i = is_some (slice_get world.normals i)
 has_row world Impls i = is_some (slice_get world.impls i)
 has_row world ConstImpls i = is_some (slice_get world.const_impls i)
 
+-- a test of an element that isn't there passes
 absent : {X : Type 0} (test : X → Bool) (found : Option X) → is_some found ≡ false → if_there test found ≡ true
 absent test None e = refl
 absent test (Some x) e = cc
 
-absent_row : (row : CheckRow) (world : HirDatabase) (table : TableName) (i : ℕ) → has_row world table i ≡ false → meets row world (Row table i) ≡ true
+-- a fact of an element that isn't there holds
+absent_fact : {X : Type 0} (fact : X → Type 0) (found : Option X) → is_some found ≡ false → IfSome found fact
+absent_fact fact None e = tt
+absent_fact fact (Some x) e = cc
+
+absent_row : (row : CheckRow) (world : HirDatabase) (table : TableName) (i : ℕ) → has_row world table i ≡ false → Meets row world (Row table i)
 absent_row C1 world Functions i e = absent _ _ e
 absent_row C1 world Consts i e = absent _ _ e
 absent_row C1 world Statics i e = absent _ _ e
@@ -158,28 +146,44 @@ absent_row C1 world Layouts i e = absent _ _ e
 absent_row C1 world Normals i e = absent _ _ e
 absent_row C1 world Impls i e = absent _ _ e
 absent_row C1 world ConstImpls i e = absent _ _ e
+absent_row C1 world _ i e = refl
+absent_row C2 world table i e = tt
+absent_row C3 world table i e = tt
 absent_row C4 world Normals i e = absent _ _ e
 absent_row C4 world Impls i e = absent _ _ e
 absent_row C4 world ConstImpls i e = absent _ _ e
-absent_row C5 world Layouts i e = absent _ _ e
-absent_row C6 world Layouts i e = absent _ _ e
+absent_row C4 world _ i e = refl
+absent_row C5 world Layouts i e = absent_fact _ _ e
+absent_row C5 world _ i e = tt
+absent_row C6 world Layouts i e = absent_fact _ _ e
+absent_row C6 world _ i e = tt
 absent_row C7 world Functions i e = absent _ _ e
-absent_row C7 world Variants i e = absent _ _ e
+absent_row C7 world Variants i e = absent_fact _ _ e
 absent_row C7 world Closures i e = absent _ _ e
-absent_row _ world table i e = refl
+absent_row C7 world _ i e = tt
 
-absent_list : (row : CheckRow) (world : HirDatabase) (b : ℕ) (kind : NodeKind) → has_row world Bodies b ≡ false → meets row world (Nodes b kind) ≡ true
+absent_list : (row : CheckRow) (world : HirDatabase) (b : ℕ) (kind : NodeKind) → has_row world Bodies b ≡ false → Meets row world (Nodes b kind)
 absent_list C1 world b kind e = absent _ _ e
-absent_list _ world b kind e = refl
+absent_list C2 world b kind e = tt
+absent_list C3 world b kind e = tt
+absent_list C4 world b kind e = refl
+absent_list C5 world b kind e = tt
+absent_list C6 world b kind e = tt
+absent_list C7 world b kind e = tt
 
 -- the body isn't there
-absent_in : (row : CheckRow) (world : HirDatabase) (b : ℕ) (kind : NodeKind) (i : ℕ) → has_row world Bodies b ≡ false → meets row world (Node b kind i) ≡ true
+absent_in : (row : CheckRow) (world : HirDatabase) (b : ℕ) (kind : NodeKind) (i : ℕ) → has_row world Bodies b ≡ false → Meets row world (Node b kind i)
 absent_in C1 world b kind i e = absent _ _ e
-absent_in C2 world b Exprs i e = absent _ _ e
-absent_in C2 world b Pats i e = absent _ _ e
-absent_in C3 world b Exprs i e = absent _ _ e
+absent_in C2 world b Exprs i e = absent_fact _ _ e
+absent_in C2 world b Pats i e = absent_fact _ _ e
+absent_in C2 world b _ i e = tt
+absent_in C3 world b Exprs i e = absent_fact _ _ e
+absent_in C3 world b _ i e = tt
+absent_in C4 world b kind i e = refl
+absent_in C5 world b kind i e = tt
+absent_in C6 world b kind i e = tt
 absent_in C7 world b Pats i e = absent _ _ e
-absent_in _ world b kind i e = refl
+absent_in C7 world b _ i e = tt
 
 abbrev has_node : Body → NodeKind → ℕ → Bool
 has_node body Exprs i = is_some (slice_get body.exprs i)
@@ -187,64 +191,72 @@ has_node body Pats i = is_some (slice_get body.pats i)
 has_node body Bindings i = is_some (slice_get body.bindings i)
 has_node body Labels i = false
 
+absent_inside : {X : Type 0} (fact : Body → X → Type 0) (nodes : Body → Option X) (found : Option BodyRow) (row : BodyRow) → found ≡ Some row → is_some (nodes row.body) ≡ false → IfSome found (λ (r : BodyRow). IfSome (nodes r.body) (fact r.body))
+absent_inside fact nodes found row there e = subst (λ (o : Option BodyRow). IfSome o (λ (r : BodyRow). IfSome (nodes r.body) (fact r.body))) (sym there) (absent_fact (fact row.body) (nodes row.body) e)
+
 -- the body is there, and the node isn't
-absent_node : (row : CheckRow) (world : HirDatabase) (b : ℕ) (kind : NodeKind) (i : ℕ) (found : BodyRow) → slice_get world.bodies b ≡ Some found → has_node found.body kind i ≡ false → meets row world (Node b kind i) ≡ true
+absent_node : (row : CheckRow) (world : HirDatabase) (b : ℕ) (kind : NodeKind) (i : ℕ) (found : BodyRow) → slice_get world.bodies b ≡ Some found → has_node found.body kind i ≡ false → Meets row world (Node b kind i)
 absent_node C1 world b Exprs i found there e = ap (if_there _) there ∙ absent _ _ e
 absent_node C1 world b Pats i found there e = ap (if_there _) there ∙ absent _ _ e
 absent_node C1 world b Bindings i found there e = ap (if_there _) there ∙ absent _ _ e
 absent_node C1 world b Labels i found there e = ap (if_there _) there
-absent_node C2 world b Exprs i found there e = ap (if_there _) there ∙ absent _ _ e
-absent_node C2 world b Pats i found there e = ap (if_there _) there ∙ absent _ _ e
-absent_node C3 world b Exprs i found there e = ap (if_there _) there ∙ absent _ _ e
+absent_node C2 world b Exprs i found there e = absent_inside (λ body. IsExprInOrder body i) (λ body. slice_get body.exprs i) (slice_get world.bodies b) found there e
+absent_node C2 world b Pats i found there e = absent_inside (λ body. IsPatInOrder body i) (λ body. slice_get body.pats i) (slice_get world.bodies b) found there e
+absent_node C2 world b _ i found there e = tt
+absent_node C3 world b Exprs i found there e = absent_inside (λ body. IsJumpInside body i) (λ body. slice_get body.exprs i) (slice_get world.bodies b) found there e
+absent_node C3 world b _ i found there e = tt
+absent_node C4 world b kind i found there e = refl
+absent_node C5 world b kind i found there e = tt
+absent_node C6 world b kind i found there e = tt
 absent_node C7 world b Pats i found there e = ap (if_there _) there ∙ absent _ _ e
-absent_node _ world b kind i found there e = refl
+absent_node C7 world b _ i found there e = tt
 
 -- Each place.
 
-table_met : (test : Place → Bool) (world : HirDatabase) → IsNowhere (λ q. not (test q)) world → (table : TableName) → test (Table table) ≡ true
-table_met test world clear Crates = (head test _ _ clear.crates).0
-table_met test world clear Functions = (head test _ _ clear.functions).0
-table_met test world clear Consts = (head test _ _ clear.consts).0
-table_met test world clear Statics = (head test _ _ clear.statics).0
-table_met test world clear Structs = (head test _ _ clear.structs).0
-table_met test world clear Unions = (head test _ _ clear.unions).0
-table_met test world clear Enums = (head test _ _ clear.enums).0
-table_met test world clear Variants = (head test _ _ clear.variants).0
-table_met test world clear Traits = (head test _ _ clear.traits).0
-table_met test world clear Aliases = (head test _ _ clear.aliases).0
-table_met test world clear TypeParams = (head test _ _ clear.type_params).0
-table_met test world clear ConstParams = (head test _ _ clear.const_params).0
-table_met test world clear Closures = (head test _ _ clear.closures).0
-table_met test world clear Layouts = (head test _ _ clear.layouts).0
-table_met test world clear Normals = (head test _ _ clear.normals).0
-table_met test world clear Impls = (head test _ _ clear.impls).0
-table_met test world clear ConstImpls = (head test _ _ clear.const_impls).0
-table_met test world clear Bodies = (head test _ _ clear.bodies).0
+table_met : (P : Place → Type 0) (world : HirDatabase) → IsNowhere P world → (table : TableName) → P (Table table)
+table_met P world clear Crates = (head P (Table Crates) (numbered (Row Crates) 0 world.crates) clear.crates).0
+table_met P world clear Functions = (head P (Table Functions) (numbered (Row Functions) 0 world.functions) clear.functions).0
+table_met P world clear Consts = (head P (Table Consts) (numbered (Row Consts) 0 world.consts) clear.consts).0
+table_met P world clear Statics = (head P (Table Statics) (numbered (Row Statics) 0 world.statics) clear.statics).0
+table_met P world clear Structs = (head P (Table Structs) (numbered (Row Structs) 0 world.structs) clear.structs).0
+table_met P world clear Unions = (head P (Table Unions) (numbered (Row Unions) 0 world.unions) clear.unions).0
+table_met P world clear Enums = (head P (Table Enums) (numbered (Row Enums) 0 world.enums) clear.enums).0
+table_met P world clear Variants = (head P (Table Variants) (numbered (Row Variants) 0 world.variants) clear.variants).0
+table_met P world clear Traits = (head P (Table Traits) (numbered (Row Traits) 0 world.traits) clear.traits).0
+table_met P world clear Aliases = (head P (Table Aliases) (numbered (Row Aliases) 0 world.aliases) clear.aliases).0
+table_met P world clear TypeParams = (head P (Table TypeParams) (numbered (Row TypeParams) 0 world.type_params) clear.type_params).0
+table_met P world clear ConstParams = (head P (Table ConstParams) (numbered (Row ConstParams) 0 world.const_params) clear.const_params).0
+table_met P world clear Closures = (head P (Table Closures) (numbered (Row Closures) 0 world.closures) clear.closures).0
+table_met P world clear Layouts = (head P (Table Layouts) (numbered (Row Layouts) 0 world.layouts) clear.layouts).0
+table_met P world clear Normals = (head P (Table Normals) (numbered (Row Normals) 0 world.normals) clear.normals).0
+table_met P world clear Impls = (head P (Table Impls) (numbered (Row Impls) 0 world.impls) clear.impls).0
+table_met P world clear ConstImpls = (head P (Table ConstImpls) (numbered (Row ConstImpls) 0 world.const_impls) clear.const_impls).0
+table_met P world clear Bodies = (head P (Table Bodies) (of_bodies 0 world.bodies) clear.bodies).0
 
-body_from : (p : Place → Bool) (b k : ℕ) (rows : List BodyRow) (row : BodyRow) → find p (of_bodies b rows) ≡ None → slice_get rows k ≡ Some row → find p (of_body (b + k) row.body) ≡ None
-body_from p b k [] row e there = cc
-body_from p b zero (next ∷ rows) row e there =
-    let start : b + zero ≡ b = omega arith in
+body_from : (P : Place → Type 0) (b k : ℕ) (rows : List BodyRow) (row : BodyRow) → FindsFailing P (of_bodies b rows) None → slice_get rows k ≡ Some row → FindsFailing P (of_body (b + k) row.body) None
+body_from P b k [] row clear there = cc
+body_from P b zero (next ∷ rows) row clear there =
+    let start : b ≡ b + zero = omega arith in
     let here : next ≡ row = cc in
-    ap (λ j. find p (of_body j row.body)) start ∙ ap (λ (r : BodyRow). find p (of_body b r.body)) (sym here) ∙ (apart p (of_body b next.body) (of_bodies (b + 1) rows) e).0
-body_from p b (suc k) (next ∷ rows) row e there =
-    let step : b + suc k ≡ b + 1 + k = omega arith in
-    ap (λ j. find p (of_body j row.body)) step ∙ body_from p (b + 1) k rows row (apart p (of_body b next.body) (of_bodies (b + 1) rows) e).1 there
+    let found = (apart P (of_body b next.body) (of_bodies (b + 1) rows) clear).0 in
+    subst (λ j. FindsFailing P (of_body j row.body) None) start (subst (λ (r : BodyRow). FindsFailing P (of_body b r.body) None) here found)
+body_from P b (suc k) (next ∷ rows) row clear there =
+    let step : b + 1 + k ≡ b + suc k = omega arith in
+    subst (λ j. FindsFailing P (of_body j row.body) None) step (body_from P (b + 1) k rows row (apart P (of_body b next.body) (of_bodies (b + 1) rows) clear).1 there)
 
-record IsNowhereIn (p : Place → Bool) (b : ℕ) (body : Body) : Type 0 where
-  exprs : find p (of_nodes b Exprs body.exprs) ≡ None
-  pats : find p (of_nodes b Pats body.pats) ≡ None
-  bindings : find p (of_nodes b Bindings body.bindings) ≡ None
-  rest : find p (Nodes b Labels ∷ Row Bodies b ∷ []) ≡ None
+record IsNowhereIn (P : Place → Type 0) (b : ℕ) (body : Body) : Type 0 where
+  exprs : FindsFailing P (of_nodes b Exprs body.exprs) None
+  pats : FindsFailing P (of_nodes b Pats body.pats) None
+  bindings : FindsFailing P (of_nodes b Bindings body.bindings) None
+  rest : FindsFailing P (Nodes b Labels ∷ Row Bodies b ∷ []) None
 
-in_body : (test : Place → Bool) (world : HirDatabase) → IsNowhere (λ q. not (test q)) world → (b : ℕ) (row : BodyRow) → slice_get world.bodies b ≡ Some row → IsNowhereIn (λ q. not (test q)) b row.body
-in_body test world clear b row there =
-    let p = λ (q : Place). not (test q) in
-    let start : b ≡ 0 + b = omega arith in
-    let whole : find p (of_body b row.body) ≡ None = ap (λ j. find p (of_body j row.body)) start ∙ body_from p 0 b world.bodies row (head test (Table Bodies) (of_bodies 0 world.bodies) clear.bodies).1 there in
-    let e = apart p (of_nodes b Exprs row.body.exprs) (of_nodes b Pats row.body.pats ++ (of_nodes b Bindings row.body.bindings ++ (Nodes b Labels ∷ Row Bodies b ∷ []))) whole in
-    let f = apart p (of_nodes b Pats row.body.pats) (of_nodes b Bindings row.body.bindings ++ (Nodes b Labels ∷ Row Bodies b ∷ [])) e.1 in
-    let g = apart p (of_nodes b Bindings row.body.bindings) (Nodes b Labels ∷ Row Bodies b ∷ []) f.1 in
+in_body : (P : Place → Type 0) (world : HirDatabase) → IsNowhere P world → (b : ℕ) (row : BodyRow) → slice_get world.bodies b ≡ Some row → IsNowhereIn P b row.body
+in_body P world clear b row there =
+    let start : 0 + b ≡ b = omega arith in
+    let whole : FindsFailing P (of_body b row.body) None = subst (λ j. FindsFailing P (of_body j row.body) None) start (body_from P 0 b world.bodies row (head P (Table Bodies) (of_bodies 0 world.bodies) clear.bodies).1 there) in
+    let e = apart P (of_nodes b Exprs row.body.exprs) (of_nodes b Pats row.body.pats ++ (of_nodes b Bindings row.body.bindings ++ (Nodes b Labels ∷ Row Bodies b ∷ []))) whole in
+    let f = apart P (of_nodes b Pats row.body.pats) (of_nodes b Bindings row.body.bindings ++ (Nodes b Labels ∷ Row Bodies b ∷ [])) e.1 in
+    let g = apart P (of_nodes b Bindings row.body.bindings) (Nodes b Labels ∷ Row Bodies b ∷ []) f.1 in
     record { exprs = e.0; pats = f.0; bindings = g.0; rest = g.1 }
 
 -- a fact of the row of a body, or of where there is none
@@ -255,42 +267,42 @@ by_body {A} world b none some = by (slice_get world.bodies b) refl
     by None there = none (ap is_some there)
     by (Some row) there = some row there
 
-body_row_met : (row : CheckRow) (world : HirDatabase) → IsNowhere (λ q. not (meets row world q)) world → (b : ℕ) → meets row world (Row Bodies b) ≡ true
+body_row_met : (row : CheckRow) (world : HirDatabase) → IsNowhere (Meets row world) world → (b : ℕ) → Meets row world (Row Bodies b)
 body_row_met row world clear b =
     by_body world b (absent_row row world Bodies b)
-    (λ found there. (head (meets row world) (Row Bodies b) [] (head (meets row world) (Nodes b Labels) (Row Bodies b ∷ []) (in_body (meets row world) world clear b found there).rest).1).0)
+    (λ found there. (head (Meets row world) (Row Bodies b) [] (head (Meets row world) (Nodes b Labels) (Row Bodies b ∷ []) (in_body (Meets row world) world clear b found there).rest).1).0)
 
-list_in : (test : Place → Bool) (b : ℕ) (kind : NodeKind) (body : Body) → IsNowhereIn (λ q. not (test q)) b body → test (Nodes b kind) ≡ true
-list_in test b Exprs body clear = (head test _ _ clear.exprs).0
-list_in test b Pats body clear = (head test _ _ clear.pats).0
-list_in test b Bindings body clear = (head test _ _ clear.bindings).0
-list_in test b Labels body clear = (head test (Nodes b Labels) (Row Bodies b ∷ []) clear.rest).0
+list_in : (P : Place → Type 0) (b : ℕ) (kind : NodeKind) (body : Body) → IsNowhereIn P b body → P (Nodes b kind)
+list_in P b Exprs body clear = (head P (Nodes b Exprs) (numbered (Node b Exprs) 0 body.exprs) clear.exprs).0
+list_in P b Pats body clear = (head P (Nodes b Pats) (numbered (Node b Pats) 0 body.pats) clear.pats).0
+list_in P b Bindings body clear = (head P (Nodes b Bindings) (numbered (Node b Bindings) 0 body.bindings) clear.bindings).0
+list_in P b Labels body clear = (head P (Nodes b Labels) (Row Bodies b ∷ []) clear.rest).0
 
-list_met : (row : CheckRow) (world : HirDatabase) → IsNowhere (λ q. not (meets row world q)) world → (b : ℕ) (kind : NodeKind) → meets row world (Nodes b kind) ≡ true
+list_met : (row : CheckRow) (world : HirDatabase) → IsNowhere (Meets row world) world → (b : ℕ) (kind : NodeKind) → Meets row world (Nodes b kind)
 list_met row world clear b kind =
-    by_body world b (absent_list row world b kind) (λ found there. list_in (meets row world) b kind found.body (in_body (meets row world) world clear b found there))
+    by_body world b (absent_list row world b kind) (λ found there. list_in (Meets row world) b kind found.body (in_body (Meets row world) world clear b found there))
 
-node_in : (test : Place → Bool) (b : ℕ) (kind : NodeKind) (i : ℕ) (body : Body) → IsNowhereIn (λ q. not (test q)) b body → (has_node body kind i ≡ false → test (Node b kind i) ≡ true) → test (Node b kind i) ≡ true
-node_in test b Exprs i body clear none = entry test (Node b Exprs) i body.exprs (head test (Nodes b Exprs) _ clear.exprs).1 (λ e. none (ap is_some e))
-node_in test b Pats i body clear none = entry test (Node b Pats) i body.pats (head test (Nodes b Pats) _ clear.pats).1 (λ e. none (ap is_some e))
-node_in test b Bindings i body clear none = entry test (Node b Bindings) i body.bindings (head test (Nodes b Bindings) _ clear.bindings).1 (λ e. none (ap is_some e))
-node_in test b Labels i body clear none = none refl
+node_in : (P : Place → Type 0) (b : ℕ) (kind : NodeKind) (i : ℕ) (body : Body) → IsNowhereIn P b body → (has_node body kind i ≡ false → P (Node b kind i)) → P (Node b kind i)
+node_in P b Exprs i body clear none = entry P (Node b Exprs) i body.exprs (head P (Nodes b Exprs) (numbered (Node b Exprs) 0 body.exprs) clear.exprs).1 (λ e. none (ap is_some e))
+node_in P b Pats i body clear none = entry P (Node b Pats) i body.pats (head P (Nodes b Pats) (numbered (Node b Pats) 0 body.pats) clear.pats).1 (λ e. none (ap is_some e))
+node_in P b Bindings i body clear none = entry P (Node b Bindings) i body.bindings (head P (Nodes b Bindings) (numbered (Node b Bindings) 0 body.bindings) clear.bindings).1 (λ e. none (ap is_some e))
+node_in P b Labels i body clear none = none refl
 
-node_met : (row : CheckRow) (world : HirDatabase) → IsNowhere (λ q. not (meets row world q)) world → (b : ℕ) (kind : NodeKind) (i : ℕ) → meets row world (Node b kind i) ≡ true
+node_met : (row : CheckRow) (world : HirDatabase) → IsNowhere (Meets row world) world → (b : ℕ) (kind : NodeKind) (i : ℕ) → Meets row world (Node b kind i)
 node_met row world clear b kind i =
     by_body world b (absent_in row world b kind i)
-    (λ found there. node_in (meets row world) b kind i found.body (in_body (meets row world) world clear b found there) (absent_node row world b kind i found there))
+    (λ found there. node_in (Meets row world) b kind i found.body (in_body (Meets row world) world clear b found there) (absent_node row world b kind i found there))
 
-function_met : (test : Place → Bool) → find (λ q. not (test q)) named_functions ≡ None → (name : NamedFunction) → test (Function name) ≡ true
-function_met test e name =
-    let a = head test (Function Drop) (Function Deref ∷ Function DerefMut ∷ Function Call ∷ Function CallMut ∷ Function CallOnce ∷ []) e in
-    let b = head test (Function Deref) (Function DerefMut ∷ Function Call ∷ Function CallMut ∷ Function CallOnce ∷ []) a.1 in
-    let c = head test (Function DerefMut) (Function Call ∷ Function CallMut ∷ Function CallOnce ∷ []) b.1 in
-    let d = head test (Function Call) (Function CallMut ∷ Function CallOnce ∷ []) c.1 in
-    let f = head test (Function CallMut) (Function CallOnce ∷ []) d.1 in
-    by name a.0 b.0 c.0 d.0 f.0 (head test (Function CallOnce) [] f.1).0
+function_met : (P : Place → Type 0) → FindsFailing P named_functions None → (name : NamedFunction) → P (Function name)
+function_met P e name =
+    let a = head P (Function Drop) (Function Deref ∷ Function DerefMut ∷ Function Call ∷ Function CallMut ∷ Function CallOnce ∷ []) e in
+    let b = head P (Function Deref) (Function DerefMut ∷ Function Call ∷ Function CallMut ∷ Function CallOnce ∷ []) a.1 in
+    let c = head P (Function DerefMut) (Function Call ∷ Function CallMut ∷ Function CallOnce ∷ []) b.1 in
+    let d = head P (Function Call) (Function CallMut ∷ Function CallOnce ∷ []) c.1 in
+    let f = head P (Function CallMut) (Function CallOnce ∷ []) d.1 in
+    by name a.0 b.0 c.0 d.0 f.0 (head P (Function CallOnce) [] f.1).0
   where
-    by : (name : NamedFunction) → test (Function Drop) ≡ true → test (Function Deref) ≡ true → test (Function DerefMut) ≡ true → test (Function Call) ≡ true → test (Function CallMut) ≡ true → test (Function CallOnce) ≡ true → test (Function name) ≡ true
+    by : (name : NamedFunction) → P (Function Drop) → P (Function Deref) → P (Function DerefMut) → P (Function Call) → P (Function CallMut) → P (Function CallOnce) → P (Function name)
     by Drop a b c d e f = a
     by Deref a b c d e f = b
     by DerefMut a b c d e f = c
@@ -298,34 +310,33 @@ function_met test e name =
     by CallMut a b c d e f = e
     by CallOnce a b c d e f = f
 
-row_met : (row : CheckRow) (world : HirDatabase) → IsNowhere (λ q. not (meets row world q)) world → (table : TableName) (i : ℕ) → meets row world (Row table i) ≡ true
-row_met row world clear Crates i = entry (meets row world) (Row Crates) i world.crates (head (meets row world) _ _ clear.crates).1 (λ e. absent_row row world Crates i (ap is_some e))
-row_met row world clear Functions i = entry (meets row world) (Row Functions) i world.functions (head (meets row world) _ _ clear.functions).1 (λ e. absent_row row world Functions i (ap is_some e))
-row_met row world clear Consts i = entry (meets row world) (Row Consts) i world.consts (head (meets row world) _ _ clear.consts).1 (λ e. absent_row row world Consts i (ap is_some e))
-row_met row world clear Statics i = entry (meets row world) (Row Statics) i world.statics (head (meets row world) _ _ clear.statics).1 (λ e. absent_row row world Statics i (ap is_some e))
-row_met row world clear Structs i = entry (meets row world) (Row Structs) i world.structs (head (meets row world) _ _ clear.structs).1 (λ e. absent_row row world Structs i (ap is_some e))
-row_met row world clear Unions i = entry (meets row world) (Row Unions) i world.unions (head (meets row world) _ _ clear.unions).1 (λ e. absent_row row world Unions i (ap is_some e))
-row_met row world clear Enums i = entry (meets row world) (Row Enums) i world.enums (head (meets row world) _ _ clear.enums).1 (λ e. absent_row row world Enums i (ap is_some e))
-row_met row world clear Variants i = entry (meets row world) (Row Variants) i world.variants (head (meets row world) _ _ clear.variants).1 (λ e. absent_row row world Variants i (ap is_some e))
-row_met row world clear Traits i = entry (meets row world) (Row Traits) i world.traits (head (meets row world) _ _ clear.traits).1 (λ e. absent_row row world Traits i (ap is_some e))
-row_met row world clear Aliases i = entry (meets row world) (Row Aliases) i world.aliases (head (meets row world) _ _ clear.aliases).1 (λ e. absent_row row world Aliases i (ap is_some e))
-row_met row world clear TypeParams i = entry (meets row world) (Row TypeParams) i world.type_params (head (meets row world) _ _ clear.type_params).1 (λ e. absent_row row world TypeParams i (ap is_some e))
-row_met row world clear ConstParams i = entry (meets row world) (Row ConstParams) i world.const_params (head (meets row world) _ _ clear.const_params).1 (λ e. absent_row row world ConstParams i (ap is_some e))
-row_met row world clear Closures i = entry (meets row world) (Row Closures) i world.closures (head (meets row world) _ _ clear.closures).1 (λ e. absent_row row world Closures i (ap is_some e))
-row_met row world clear Layouts i = entry (meets row world) (Row Layouts) i world.layouts (head (meets row world) _ _ clear.layouts).1 (λ e. absent_row row world Layouts i (ap is_some e))
-row_met row world clear Normals i = entry (meets row world) (Row Normals) i world.normals (head (meets row world) _ _ clear.normals).1 (λ e. absent_row row world Normals i (ap is_some e))
-row_met row world clear Impls i = entry (meets row world) (Row Impls) i world.impls (head (meets row world) _ _ clear.impls).1 (λ e. absent_row row world Impls i (ap is_some e))
-row_met row world clear ConstImpls i = entry (meets row world) (Row ConstImpls) i world.const_impls (head (meets row world) _ _ clear.const_impls).1 (λ e. absent_row row world ConstImpls i (ap is_some e))
+row_met : (row : CheckRow) (world : HirDatabase) → IsNowhere (Meets row world) world → (table : TableName) (i : ℕ) → Meets row world (Row table i)
+row_met row world clear Crates i = entry (Meets row world) (Row Crates) i world.crates (head (Meets row world) (Table Crates) (numbered (Row Crates) 0 world.crates) clear.crates).1 (λ e. absent_row row world Crates i (ap is_some e))
+row_met row world clear Functions i = entry (Meets row world) (Row Functions) i world.functions (head (Meets row world) (Table Functions) (numbered (Row Functions) 0 world.functions) clear.functions).1 (λ e. absent_row row world Functions i (ap is_some e))
+row_met row world clear Consts i = entry (Meets row world) (Row Consts) i world.consts (head (Meets row world) (Table Consts) (numbered (Row Consts) 0 world.consts) clear.consts).1 (λ e. absent_row row world Consts i (ap is_some e))
+row_met row world clear Statics i = entry (Meets row world) (Row Statics) i world.statics (head (Meets row world) (Table Statics) (numbered (Row Statics) 0 world.statics) clear.statics).1 (λ e. absent_row row world Statics i (ap is_some e))
+row_met row world clear Structs i = entry (Meets row world) (Row Structs) i world.structs (head (Meets row world) (Table Structs) (numbered (Row Structs) 0 world.structs) clear.structs).1 (λ e. absent_row row world Structs i (ap is_some e))
+row_met row world clear Unions i = entry (Meets row world) (Row Unions) i world.unions (head (Meets row world) (Table Unions) (numbered (Row Unions) 0 world.unions) clear.unions).1 (λ e. absent_row row world Unions i (ap is_some e))
+row_met row world clear Enums i = entry (Meets row world) (Row Enums) i world.enums (head (Meets row world) (Table Enums) (numbered (Row Enums) 0 world.enums) clear.enums).1 (λ e. absent_row row world Enums i (ap is_some e))
+row_met row world clear Variants i = entry (Meets row world) (Row Variants) i world.variants (head (Meets row world) (Table Variants) (numbered (Row Variants) 0 world.variants) clear.variants).1 (λ e. absent_row row world Variants i (ap is_some e))
+row_met row world clear Traits i = entry (Meets row world) (Row Traits) i world.traits (head (Meets row world) (Table Traits) (numbered (Row Traits) 0 world.traits) clear.traits).1 (λ e. absent_row row world Traits i (ap is_some e))
+row_met row world clear Aliases i = entry (Meets row world) (Row Aliases) i world.aliases (head (Meets row world) (Table Aliases) (numbered (Row Aliases) 0 world.aliases) clear.aliases).1 (λ e. absent_row row world Aliases i (ap is_some e))
+row_met row world clear TypeParams i = entry (Meets row world) (Row TypeParams) i world.type_params (head (Meets row world) (Table TypeParams) (numbered (Row TypeParams) 0 world.type_params) clear.type_params).1 (λ e. absent_row row world TypeParams i (ap is_some e))
+row_met row world clear ConstParams i = entry (Meets row world) (Row ConstParams) i world.const_params (head (Meets row world) (Table ConstParams) (numbered (Row ConstParams) 0 world.const_params) clear.const_params).1 (λ e. absent_row row world ConstParams i (ap is_some e))
+row_met row world clear Closures i = entry (Meets row world) (Row Closures) i world.closures (head (Meets row world) (Table Closures) (numbered (Row Closures) 0 world.closures) clear.closures).1 (λ e. absent_row row world Closures i (ap is_some e))
+row_met row world clear Layouts i = entry (Meets row world) (Row Layouts) i world.layouts (head (Meets row world) (Table Layouts) (numbered (Row Layouts) 0 world.layouts) clear.layouts).1 (λ e. absent_row row world Layouts i (ap is_some e))
+row_met row world clear Normals i = entry (Meets row world) (Row Normals) i world.normals (head (Meets row world) (Table Normals) (numbered (Row Normals) 0 world.normals) clear.normals).1 (λ e. absent_row row world Normals i (ap is_some e))
+row_met row world clear Impls i = entry (Meets row world) (Row Impls) i world.impls (head (Meets row world) (Table Impls) (numbered (Row Impls) 0 world.impls) clear.impls).1 (λ e. absent_row row world Impls i (ap is_some e))
+row_met row world clear ConstImpls i = entry (Meets row world) (Row ConstImpls) i world.const_impls (head (Meets row world) (Table ConstImpls) (numbered (Row ConstImpls) 0 world.const_impls) clear.const_impls).1 (λ e. absent_row row world ConstImpls i (ap is_some e))
 row_met row world clear Bodies b = body_row_met row world clear b
 
-each : (row : CheckRow) (world : HirDatabase) → IsNowhere (λ q. not (meets row world q)) world → (place : Place) → meets row world place ≡ true
-each row world clear (Table table) = table_met (meets row world) world clear table
+each : (row : CheckRow) (world : HirDatabase) → IsNowhere (Meets row world) world → (place : Place) → Meets row world place
+each row world clear (Table table) = table_met (Meets row world) world clear table
 each row world clear (Row table i) = row_met row world clear table i
 each row world clear (Nodes b kind) = list_met row world clear b kind
 each row world clear (Node b kind i) = node_met row world clear b kind i
-each row world clear (Function name) = function_met (meets row world) clear.named name
+each row world clear (Function name) = function_met (Meets row world) clear.named name
 
--- where no place is the first to fail a row, every place meets it
-pub all_met : (row : CheckRow) (world : HirDatabase) → failing_place row world ≡ None → (place : Place) → meets row world place ≡ true
-unfolding failing_place first_unmet
-all_met row world e place = each row world (nowhere (λ q. not (meets row world q)) world e) place
+-- where no place of the world fails a row, every place meets it
+pub all_met : (row : CheckRow) (world : HirDatabase) → FindsFailing (Meets row world) (places world) None → (place : Place) → Meets row world place
+all_met row world clear place = each row world (nowhere (Meets row world) world clear) place

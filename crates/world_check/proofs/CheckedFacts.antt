@@ -1,15 +1,16 @@
 -- A world that passes the check is a checked world.
-use Rattle.std.proofs.Common.{◌≡◌, ℕ, zero, suc, ◌<◌, Bool, true, Option, Some, None, List, [], ◌∷◌, length, refl, sym, ◌∙◌, ap, arith, eqb, ltb, rules}
+use Rattle.std.proofs.Common.{◌≡◌, ℕ, zero, ◌<◌, Bool, true, Option, Some, None, List, [], length, get_or, sym, ◌∙◌, ap, subst, arith, eqb, ltb, rules}
 use Rattle.std.proofs.lemmas.Bool.Decides.{nat_tests}
-use Rattle.std.specs.List.{list_all, slice_get, All}
-use Rattle.std.specs.Option.{IfSome}
+use Rattle.std.proofs.lemmas.Option.{slice_get-get_or}
+use Rattle.std.specs.List.{slice_get, All}
+use Rattle.std.specs.Option.{IfSome, option_map_or}
 use Rattle.types.specs.declared.scalars.IntTy.{IntTy}
 use Rattle.types.specs.declared.scalars.UintTy.{UintTy}
 use Rattle.types.specs.declared.ty.Const.TheFolds.{the_lemmas}
 use Rattle.types.specs.declared.ty.Ty.{Ty}
 use Rattle.types.specs.declared.ty.Ty as type
 use Rattle.world.specs.Checked.{IsChecked, IsCheckedBody, IsCheckedConst, IsCheckedLayout, fixed_size, int_bytes, uint_bytes}
-use Rattle.world.specs.Nodes.{children_of, inner_exprs_of, patterns_of}
+use Rattle.world.specs.Nodes.{children_of, inner_exprs_of}
 use Rattle.world.specs.declared.body.Body.{Body}
 use Rattle.world.specs.declared.database.BodyRow.{BodyRow}
 use Rattle.world.specs.declared.database.HirDatabase.{HirDatabase}
@@ -19,23 +20,19 @@ use Rattle.world.specs.declared.layout.Layout.{Layout}
 use Rattle.world.specs.declared.pat.Pat.{Pat}
 use Rattle.check_ids.specs.Inferred.{has_type_each, is_inferred_right}
 use Rattle.check_ids.specs.Parts.{are_roots_known}
-use Rattle.check_trees.specs.Tree.{inner_exprs_in, is_expr_in_order, stands_inside}
+use Rattle.check_trees.specs.First.{Has}
+use Rattle.check_trees.specs.Tree.{AreBelow, IsExprInOrder, StandsInside}
 use Rattle.check_items.specs.Names.{is_body_known, is_const_named}
 use Rattle.check_layouts.specs.Sizes.{known_size, layout_above}
 use Rattle.check_layouts.specs.Laid.{IsLaidOut}
-use Rattle.world_check.specs.Meets.{if_at, if_there, is_typed_body_known}
-use Rattle.world_check.specs.Rows.{Holds, failing_place, first_failure, first_failure_among, row_failure}
-use Rattle.world_check.specs.declared.fault.CheckRow.{CheckRow}
-use Rattle.world_check.specs.declared.fault.CheckRow.TheVariants.{C1, C2, C3, C4, C5, C6, C7}
+use Rattle.world_check.specs.Meets.{if_there, is_typed_body_known}
+use Rattle.world_check.specs.Rows.{Holds}
+use Rattle.world_check.specs.declared.fault.CheckRow.TheVariants.{C1, C2, C5}
 use Rattle.world_check.specs.declared.place.NodeKind.TheVariants.{Exprs}
-use Rattle.world_check.specs.declared.place.Place.{Place}
 use Rattle.world_check.specs.declared.place.Place.TheVariants.{Node, Row}
 use Rattle.world_check.specs.declared.place.TableName.TheVariants.{Bodies, Consts, Layouts}
-use Rattle.world_check.proofs.AllMet.{all_met}
-use Rattle.world_check.proofs.Decided.{meets_decides}
-use Rattle.world_check.proofs.InOrder.{stands_here}
 use Rattle.world_check.proofs.Laid.{of_there}
-use Rattle.world_check.proofs.Passing.{all_at, both}
+use Rattle.world_check.proofs.Passing.{both}
 
 is_below : (c i : ℕ) → ltb c i ≡ true → c < i
 is_below c i e = grind (arith, nat_tests)
@@ -43,10 +40,9 @@ is_below c i e = grind (arith, nat_tests)
 is_same : (m n : ℕ) → eqb m n ≡ true → m ≡ n
 is_same m n e = grind (arith, nat_tests)
 
-all_below : (i : ℕ) (xs : List ℕ) → list_all (λ x. ltb x i) xs ≡ true → All (λ x. x < i) xs
-all_below i [] e k d h = absurd (omega arith)
-all_below i (x ∷ xs) e zero d h = is_below x i (both (ltb x i) (list_all (λ y. ltb y i) xs) e).0
-all_below i (x ∷ xs) e (suc k) d h = all_below i xs (both (ltb x i) (list_all (λ y. ltb y i) xs) e).1 k d (omega arith)
+-- each id of a list is below a limit, by its index
+all_below : (limit : ℕ) (ids : List ℕ) → AreBelow ids limit → All (λ id. id < limit) ids
+all_below limit ids below k d h = below (get_or ids k d) (k, slice_get-get_or ids k d h)
 
 body_in_range : (world : HirDatabase) (body : Option ℕ) → is_body_known world body ≡ true → IfSome body (λ place. place < length world.bodies)
 body_in_range world None e = tt
@@ -89,11 +85,12 @@ passes_there : {X : Type 0} (test : X → Bool) (found : Option X) (x : X) → f
 passes_there test found x there e = ap (if_there test) (sym there) ∙ e
 
 -- the expressions that a pattern holds have lower numbers, where those inside it have
-held_below : (body : Body) (e p : ℕ) (pat : Pat) → slice_get body.pats p ≡ Some pat → stands_inside body e 400 p ≡ true → All (λ inner. inner < e) (inner_exprs_of pat)
-held_below body e p pat there stands =
-    all_below e (inner_exprs_of pat) (ap (λ found. list_all (λ inner. ltb inner e) (inner_exprs_in found)) (sym there) ∙ stands_here body e 400 p stands)
+held_below : (body : Body) (e p : ℕ) (pat : Pat) → slice_get body.pats p ≡ Some pat → ((inner : ℕ) → StandsInside body zero p inner → inner < e) → All (λ inner. inner < e) (inner_exprs_of pat)
+unfolding StandsInside
+held_below body e p pat there below =
+    all_below e (inner_exprs_of pat) (λ inner has. below inner (subst (λ ids. Has ids inner) (sym (ap (λ found. option_map_or inner_exprs_of found []) there)) has))
 
-checked_body : (world : HirDatabase) (row : BodyRow) → is_typed_body_known world row ≡ true → ((e : ℕ) (node : Expr) → slice_get row.body.exprs e ≡ Some node → is_expr_in_order row.body e node ≡ true) → IsCheckedBody row.body row.infer
+checked_body : (world : HirDatabase) (row : BodyRow) → is_typed_body_known world row ≡ true → ((e : ℕ) (node : Expr) → slice_get row.body.exprs e ≡ Some node → IsExprInOrder row.body e node) → IsCheckedBody row.body row.infer
 checked_body world row known ordered =
     let body = row.body in
     let parts = both (are_roots_known body) (is_inferred_right world body row.infer) known in
@@ -109,73 +106,21 @@ checked_body world row known ordered =
       expr_types = is_same _ _ exprs.0;
       pat_types = is_same _ _ exprs.1;
       binding_types = is_same _ _ bindings.1;
-      children = λ e node at.
-          let held = both _ _ (ordered e node at) in
-          let inside = both _ _ held.0 in
-          let below = both (list_all (λ child. ltb child e) (children_of node)) _ inside.0 in
-          all_below e (children_of node) below.0;
-      inside = λ e node k p pat at has there.
-          let held = both _ _ (ordered e node at) in
-          let tree = both _ _ held.0 in
-          let stands = both _ (list_all (stands_inside body e 400) (patterns_of node)) tree.0 in
-          held_below body e p pat there (all_at (stands_inside body e 400) k (patterns_of node) p stands.1 has);
+      children = λ e node at. all_below e (children_of node) (ordered e node at).children;
+      inside = λ e node k p pat at has there. held_below body e p pat there (λ inner stands. (ordered e node at).inside p zero inner (k, has) stands);
     }
 
-row_passes : (row : CheckRow) (found : Option Place) (later : Option (CheckRow × List ℕ)) → row_failure row found later ≡ None → (found ≡ None) × (later ≡ None)
-row_passes row None later e = (refl, e)
-row_passes row (Some p) later e = cc
-
-by_row : (world : HirDatabase) → failing_place C1 world ≡ None → failing_place C2 world ≡ None → failing_place C3 world ≡ None → failing_place C4 world ≡ None → failing_place C5 world ≡ None → failing_place C6 world ≡ None → failing_place C7 world ≡ None → (row : CheckRow) → failing_place row world ≡ None
-by_row world e1 e2 e3 e4 e5 e6 e7 C1 = e1
-by_row world e1 e2 e3 e4 e5 e6 e7 C2 = e2
-by_row world e1 e2 e3 e4 e5 e6 e7 C3 = e3
-by_row world e1 e2 e3 e4 e5 e6 e7 C4 = e4
-by_row world e1 e2 e3 e4 e5 e6 e7 C5 = e5
-by_row world e1 e2 e3 e4 e5 e6 e7 C6 = e6
-by_row world e1 e2 e3 e4 e5 e6 e7 C7 = e7
-
--- in a world without a failure no row of the check fails anywhere
-pub Holds-from_passes : (world : HirDatabase) → first_failure world ≡ None → Holds world
-unfolding first_failure
-Holds-from_passes world e =
-    let first = row_passes C1 (failing_place C1 world) (first_failure_among (C2 ∷ C3 ∷ C4 ∷ C5 ∷ C6 ∷ C7 ∷ []) world) e in
-    let second = row_passes C2 (failing_place C2 world) (first_failure_among (C3 ∷ C4 ∷ C5 ∷ C6 ∷ C7 ∷ []) world) first.1 in
-    let third = row_passes C3 (failing_place C3 world) (first_failure_among (C4 ∷ C5 ∷ C6 ∷ C7 ∷ []) world) second.1 in
-    let fourth = row_passes C4 (failing_place C4 world) (first_failure_among (C5 ∷ C6 ∷ C7 ∷ []) world) third.1 in
-    let fifth = row_passes C5 (failing_place C5 world) (first_failure_among (C6 ∷ C7 ∷ []) world) fourth.1 in
-    let sixth = row_passes C6 (failing_place C6 world) (first_failure_among (C7 ∷ []) world) fifth.1 in
-    let seventh = row_passes C7 (failing_place C7 world) None sixth.1 in
-    let at = by_row world first.0 second.0 third.0 fourth.0 fifth.0 sixth.0 seventh.0 in
-    record { met = λ row place. (meets_decides row world place).0 (all_met row world (at row) place); at = at }
-
--- a world without a failure is a checked world
-pub IsChecked-from_passes : (world : HirDatabase) → first_failure world ≡ None → IsChecked world
-IsChecked-from_passes world e =
-    let holds = Holds-from_passes world e in
-    record {
-      consts = λ i row at. checked_const world row (passes_there (is_const_named world) (slice_get world.consts i) row at (holds.met C1 (Row Consts i)));
-      bodies = λ b row at. checked_body world row (passes_there (is_typed_body_known world) (slice_get world.bodies b) row at (holds.met C1 (Row Bodies b))) (ordered holds b row at);
-      layouts = λ i row at.
-          let laid = of_there (λ (r : Ty × Layout). IsLaidOut world (layout_above world i) r.0 r.1) (slice_get world.layouts i) row at (holds.met C5 (Row Layouts i)) in
-          checked_layout world (layout_above world i) row.0 row.1 laid;
-    }
+-- a world in which each row of the check holds is a checked world
+pub IsChecked-from_holds : (world : HirDatabase) → Holds world → IsChecked world
+IsChecked-from_holds world holds = record {
+  consts = λ i row at. checked_const world row (passes_there (is_const_named world) (slice_get world.consts i) row at (holds.met C1 (Row Consts i)));
+  bodies = λ b row at. checked_body world row (passes_there (is_typed_body_known world) (slice_get world.bodies b) row at (holds.met C1 (Row Bodies b))) (ordered b row at);
+  layouts = λ i row at.
+      let laid = of_there (λ (r : Ty × Layout). IsLaidOut world (layout_above world i) r.0 r.1) (slice_get world.layouts i) row at (holds.met C5 (Row Layouts i)) in
+      checked_layout world (layout_above world i) row.0 row.1 laid;
+}
   where
-    ordered : Holds world → (b : ℕ) (row : BodyRow) → slice_get world.bodies b ≡ Some row → (e : ℕ) (node : Expr) → slice_get row.body.exprs e ≡ Some node → is_expr_in_order row.body e node ≡ true
-    ordered holds b row at e node there =
-        passes_there (is_expr_in_order row.body e) (slice_get row.body.exprs e) node there
-        (passes_there (λ (r : BodyRow). if_at (is_expr_in_order r.body) r.body.exprs e) (slice_get world.bodies b) row at (all_met C2 world (holds.at C2) (Node b Exprs e)))
-
--- a world in which no row of the check fails has no failure
-pub no_failure : (world : HirDatabase) → None ≡ failing_place C1 world → None ≡ failing_place C2 world → None ≡ failing_place C3 world → None ≡ failing_place C4 world → None ≡ failing_place C5 world → None ≡ failing_place C6 world → None ≡ failing_place C7 world → first_failure world ≡ None
-unfolding first_failure
-no_failure world e1 e2 e3 e4 e5 e6 e7 =
-    passed C1 (failing_place C1 world) (first_failure_among (C2 ∷ C3 ∷ C4 ∷ C5 ∷ C6 ∷ C7 ∷ []) world) e1
-    ∙ passed C2 (failing_place C2 world) (first_failure_among (C3 ∷ C4 ∷ C5 ∷ C6 ∷ C7 ∷ []) world) e2
-    ∙ passed C3 (failing_place C3 world) (first_failure_among (C4 ∷ C5 ∷ C6 ∷ C7 ∷ []) world) e3
-    ∙ passed C4 (failing_place C4 world) (first_failure_among (C5 ∷ C6 ∷ C7 ∷ []) world) e4
-    ∙ passed C5 (failing_place C5 world) (first_failure_among (C6 ∷ C7 ∷ []) world) e5
-    ∙ passed C6 (failing_place C6 world) (first_failure_among (C7 ∷ []) world) e6
-    ∙ passed C7 (failing_place C7 world) None e7
-  where
-    passed : (row : CheckRow) (found : Option Place) (later : Option (CheckRow × List ℕ)) → None ≡ found → row_failure row found later ≡ later
-    passed row found later e = ap (λ o. row_failure row o later) (sym e)
+    ordered : (b : ℕ) (row : BodyRow) → slice_get world.bodies b ≡ Some row → (e : ℕ) (node : Expr) → slice_get row.body.exprs e ≡ Some node → IsExprInOrder row.body e node
+    ordered b row at e node there =
+        of_there (IsExprInOrder row.body e) (slice_get row.body.exprs e) node there
+        (of_there (λ (r : BodyRow). IfSome (slice_get r.body.exprs e) (IsExprInOrder r.body e)) (slice_get world.bodies b) row at (holds.met C2 (Node b Exprs e)))

@@ -1,6 +1,6 @@
--- The first place that doesn't meet the row on ids and keys is the one that the code finds.
-use Rattle.std.proofs.Common.{◌≡◌, ℕ, ◌&&◌, Bool, true, false, cond, not, length, Option, Some, None, List, [], ◌∷◌, refl, sym, ◌∙◌, ap}
-use Rattle.std.specs.List.{find, position, slice_get}
+-- The code finds the first place that doesn't meet the row on ids and keys.
+use Rattle.std.proofs.Common.{◌≡◌, ℕ, ◌&&◌, Bool, true, false, cond, not, length, Option, Some, None, [], ◌∷◌, Decides, refl, sym, ◌∙◌, ap}
+use Rattle.std.specs.List.{position, slice_get}
 use Rattle.std.specs.Option.{option_map, option_or}
 use Rattle.types.specs.declared.ids.AliasId.{AliasId}
 use Rattle.types.specs.declared.ty.GenericArgs.{GenericArgs}
@@ -16,42 +16,22 @@ use Rattle.check_ids.specs.Parts.{unless, wrong_in_list}
 use Rattle.check_ids.specs.declared.part.BodyPart.{BodyPart}
 use Rattle.check_ids.specs.declared.part.BodyPart.TheVariants as part
 use Rattle.check_items.specs.Names.{is_closure_named, is_const_impl_named, is_const_named, is_const_param_named, is_enum_named, is_function_known, is_function_named, is_impl_named, is_layout_named, is_normal_named, is_static_named, is_struct_named, is_variant_named}
-use Rattle.world_check.specs.Meets.{has_new_alias, has_new_const, has_new_function, has_new_type, is_typed_body_known, is_list_nameable, is_node_known}
-use Rattle.world_check.specs.Tests.{meets}
-use Rattle.world_check.specs.Rows.{failing_place, first_unmet}
-use Rattle.world_check.specs.WorldPlaces.{numbered, of_adts, of_bodies, of_body, of_code, of_items, of_keyed_rows, of_names, of_nodes, of_table, part_place}
+use Rattle.world_check.specs.Meets.{Meets, has_new_alias, has_new_const, has_new_function, has_new_type, is_typed_body_known, is_list_nameable}
+use Rattle.world_check.specs.Rows.{FindsFailing, FindsUnmet}
+use Rattle.world_check.specs.WorldPlaces.{of_adts, of_bodies, of_body, of_code, of_items, of_keyed_rows, of_names, of_table, part_place}
 use Rattle.world_check.specs.declared.fault.CheckRow.TheVariants.{C1}
 use Rattle.world_check.specs.declared.place.NamedFunction.TheVariants.{Drop, Deref, DerefMut, Call, CallMut, CallOnce}
-use Rattle.world_check.specs.declared.place.NodeKind.{NodeKind}
 use Rattle.world_check.specs.declared.place.NodeKind.TheVariants.{Exprs, Pats, Bindings, Labels}
 use Rattle.world_check.specs.declared.place.Place.{Place}
 use Rattle.world_check.specs.declared.place.Place.TheVariants.{Table, Row, Nodes, Node, Function}
-use Rattle.world_check.specs.declared.place.TableName.{TableName}
 use Rattle.world_check.specs.declared.place.TableName.TheVariants.{Crates, Functions, Consts, Statics, Structs, Unions, Enums, Variants, Traits, Aliases, TypeParams, ConstParams, Closures, Bodies, Layouts, Normals, Impls, ConstImpls}
-use Rattle.world_check.proofs.Searches.{headed, joined, numbered_silent, numbered_wrong, rows_first}
-use Rattle.world_check.proofs.Segments.{adts, all_places, body_asked, code, each_body, items, keyed, names, one_body, there_asked}
-use Rattle.world_check.proofs.Walks.{first_found, wrong_adt, wrong_call, wrong_drop_or_deref, wrong_item, wrong_keyed_row, wrong_part_in, wrong_table, wrong_trait_or_param}
+use Rattle.world_check.proofs.First.{found_is, headed, joined, single}
+use Rattle.world_check.proofs.Searches.{length_asked, nodes_asked, rows_first, table_asked}
+use Rattle.world_check.proofs.Segments.{adts, all_places, asked, asked_in, code, items, keyed, names, one_body}
+use Rattle.world_check.proofs.Walks.{wrong_adt, wrong_call, wrong_drop_or_deref, wrong_item, wrong_keyed_row, wrong_part_in, wrong_table, wrong_trait_or_param}
 
--- a table whose length and whose rows are asked
-table_asked : {X : Type 0} (p : Place → Bool) (table : TableName) (test : X → Bool) (rows : List X) → p (Table table) ≡ not (is_nameable (length rows)) → ((i : ℕ) (row : X) → slice_get rows i ≡ Some row → p (Row table i) ≡ not (test row)) → find p (of_table table rows) ≡ wrong_table table test rows
-table_asked p table test rows whole fits =
-    headed p (Table table) (numbered (Row table) 0 rows) (is_nameable (length rows)) _ whole (numbered_wrong p (Row table) test rows fits)
-
--- a table whose length alone is asked
-length_asked : {X : Type 0} (p : Place → Bool) (table : TableName) (rows : List X) → p (Table table) ≡ not (is_nameable (length rows)) → ((i : ℕ) → p (Row table i) ≡ false) → find p (of_table table rows) ≡ cond (is_nameable (length rows)) None (Some (Table table))
-length_asked p table rows whole silent =
-    headed p (Table table) (numbered (Row table) 0 rows) (is_nameable (length rows)) None whole (numbered_silent p (Row table) 0 rows silent)
-
--- a body's list whose length and whose nodes are asked
-nodes_asked : {X : Type 0} (p : Place → Bool) (b : ℕ) (kind : NodeKind) (test : X → Bool) (nodes : List X) → p (Nodes b kind) ≡ not (is_nameable (length nodes)) → ((i : ℕ) (node : X) → slice_get nodes i ≡ Some node → p (Node b kind i) ≡ not (test node)) → find p (of_nodes b kind nodes) ≡ cond (is_nameable (length nodes)) (option_map (Node b kind) (position (λ node. not (test node)) nodes)) (Some (Nodes b kind))
-nodes_asked p b kind test nodes whole fits =
-    headed p (Nodes b kind) (numbered (Node b kind) 0 nodes) (is_nameable (length nodes)) _ whole (numbered_wrong p (Node b kind) test nodes fits)
-
--- the labels and the rest of a body
-rest_asked : (labels known : Bool) (b : ℕ) → cond (not labels) (Some (Nodes b Labels)) (cond (not known) (Some (Row Bodies b)) None) ≡ option_or (cond labels None (Some (Nodes b Labels))) (cond known None (Some (Row Bodies b)))
-rest_asked true true b = refl
-rest_asked true false b = refl
-rest_asked false known b = refl
+as_tested : (b : Bool) → Decides b (b ≡ true)
+as_tested b = ((λ e. e), (λ e. e))
 
 mapped_or : {A B : Type 0} (f : A → B) (x y : Option A) → option_map f (option_or x y) ≡ option_or (option_map f x) (option_map f y)
 mapped_or f None y = refl
@@ -96,124 +76,115 @@ parts_placed b None None None l r e2 p2 n2 l2 r2 e3 p3 n3 l3 r3 =
     ap (λ o. option_or o (option_or p2 (option_or n2 (option_or l2 r2)))) (sym e3) ∙ ap (λ o. option_or o (option_or n2 (option_or l2 r2))) (sym p3) ∙ ap (λ o. option_or o (option_or l2 r2)) (sym n3)
     ∙ ap (λ o. option_or o r2) (sym l3) ∙ ap (option_or (option_map (part_place b) l)) (sym r3) ∙ sym (mapped_or (part_place b) l r)
 
-ids_in_body : (world : HirDatabase) (b : ℕ) (row : BodyRow) → slice_get world.bodies b ≡ Some row → find (λ place. not (meets C1 world place)) (of_body b row.body) ≡ wrong_part_in world b row
+-- the parts of a body
+pub ids_in_body : (world : HirDatabase) (b : ℕ) (row : BodyRow) → slice_get world.bodies b ≡ Some row → FindsFailing (Meets C1 world) (of_body b row.body) (wrong_part_in world b row)
 ids_in_body world b row there =
-    one_body (λ place. not (meets C1 world place)) b row.body _ _ _ _
-    (nodes_asked (λ place. not (meets C1 world place)) b Exprs (is_expr_in_range row.body) row.body.exprs (body_asked world b row (is_list_nameable Exprs) there)
-    (λ e found at. body_asked world b row (is_node_known Exprs e) there ∙ there_asked (is_expr_in_range row.body) _ found at))
-    (nodes_asked (λ place. not (meets C1 world place)) b Pats (is_pat_in_range row.body) row.body.pats (body_asked world b row (is_list_nameable Pats) there)
-    (λ p found at. body_asked world b row (is_node_known Pats p) there ∙ there_asked (is_pat_in_range row.body) _ found at))
-    (nodes_asked (λ place. not (meets C1 world place)) b Bindings (is_binding_in_range row.body) row.body.bindings (body_asked world b row (is_list_nameable Bindings) there)
-    (λ i found at. body_asked world b row (is_node_known Bindings i) there ∙ there_asked (is_binding_in_range row.body) _ found at))
-    rest
-    ∙ parts_placed b
-    (wrong_in_list part.Exprs part.Expr (is_expr_in_range row.body) row.body.exprs)
-    (wrong_in_list part.Pats part.Pat (is_pat_in_range row.body) row.body.pats)
-    (wrong_in_list part.Bindings part.Binding (is_binding_in_range row.body) row.body.bindings)
-    (unless (is_nameable (length row.body.labels)) part.Labels)
-    (unless (is_typed_body_known world row) part.Rest)
-    _ _ _ _ _
-    (exprs_part b (is_nameable (length row.body.exprs)) _)
-    (pats_part b (is_nameable (length row.body.pats)) _)
-    (bindings_part b (is_nameable (length row.body.bindings)) _)
-    (labels_part b (is_nameable (length row.body.labels)))
-    (rest_part b (is_typed_body_known world row))
+    found_is (Meets C1 world) (of_body b row.body) (option_or exprs (option_or pats (option_or bindings (option_or labels known)))) (wrong_part_in world b row) (sym placed)
+    (one_body (Meets C1 world) b row.body exprs pats bindings (option_or labels known)
+    (nodes_asked (Meets C1 world) b Exprs (length row.body.exprs) (is_expr_in_range row.body) row.body.exprs (asked (λ (r : BodyRow). is_list_nameable Exprs r.body) (slice_get world.bodies b) row there)
+    (λ e found at. asked_in is_expr_in_range (λ body. slice_get body.exprs e) (slice_get world.bodies b) row found there at))
+    (nodes_asked (Meets C1 world) b Pats (length row.body.pats) (is_pat_in_range row.body) row.body.pats (asked (λ (r : BodyRow). is_list_nameable Pats r.body) (slice_get world.bodies b) row there)
+    (λ p found at. asked_in is_pat_in_range (λ body. slice_get body.pats p) (slice_get world.bodies b) row found there at))
+    (nodes_asked (Meets C1 world) b Bindings (length row.body.bindings) (is_binding_in_range row.body) row.body.bindings (asked (λ (r : BodyRow). is_list_nameable Bindings r.body) (slice_get world.bodies b) row there)
+    (λ i found at. asked_in is_binding_in_range (λ body. slice_get body.bindings i) (slice_get world.bodies b) row found there at))
+    (joined (Meets C1 world) (Nodes b Labels ∷ []) (Row Bodies b ∷ []) labels known
+    (single (Meets C1 world) (Nodes b Labels) (is_nameable (length row.body.labels)) (asked (λ (r : BodyRow). is_list_nameable Labels r.body) (slice_get world.bodies b) row there))
+    (single (Meets C1 world) (Row Bodies b) (is_typed_body_known world row) (asked (is_typed_body_known world) (slice_get world.bodies b) row there))))
   where
-    rest : find (λ place. not (meets C1 world place)) (Nodes b Labels ∷ Row Bodies b ∷ []) ≡ option_or (cond (is_nameable (length row.body.labels)) None (Some (Nodes b Labels))) (cond (is_typed_body_known world row) None (Some (Row Bodies b)))
-    rest =
-        ap (λ c. cond c (Some (Nodes b Labels)) (cond (not (meets C1 world (Row Bodies b))) (Some (Row Bodies b)) None)) (body_asked world b row (is_list_nameable Labels) there)
-        ∙ ap (λ c. cond (not (is_nameable (length row.body.labels))) (Some (Nodes b Labels)) (cond c (Some (Row Bodies b)) None)) (there_asked (is_typed_body_known world) _ row there)
-        ∙ rest_asked (is_nameable (length row.body.labels)) (is_typed_body_known world row) b
+    exprs : Option Place
+    exprs = cond (is_nameable (length row.body.exprs)) (option_map (Node b Exprs) (position (λ node. not (is_expr_in_range row.body node)) row.body.exprs)) (Some (Nodes b Exprs))
+
+    pats : Option Place
+    pats = cond (is_nameable (length row.body.pats)) (option_map (Node b Pats) (position (λ node. not (is_pat_in_range row.body node)) row.body.pats)) (Some (Nodes b Pats))
+
+    bindings : Option Place
+    bindings = cond (is_nameable (length row.body.bindings)) (option_map (Node b Bindings) (position (λ node. not (is_binding_in_range row.body node)) row.body.bindings)) (Some (Nodes b Bindings))
+
+    labels : Option Place
+    labels = cond (is_nameable (length row.body.labels)) None (Some (Nodes b Labels))
+
+    known : Option Place
+    known = cond (is_typed_body_known world row) None (Some (Row Bodies b))
+
+    placed : option_or exprs (option_or pats (option_or bindings (option_or labels known))) ≡ wrong_part_in world b row
+    placed =
+        parts_placed b
+        (wrong_in_list part.Exprs part.Expr (is_expr_in_range row.body) row.body.exprs)
+        (wrong_in_list part.Pats part.Pat (is_pat_in_range row.body) row.body.pats)
+        (wrong_in_list part.Bindings part.Binding (is_binding_in_range row.body) row.body.bindings)
+        (unless (is_nameable (length row.body.labels)) part.Labels)
+        (unless (is_typed_body_known world row) part.Rest)
+        exprs pats bindings labels known
+        (exprs_part b (is_nameable (length row.body.exprs)) _)
+        (pats_part b (is_nameable (length row.body.pats)) _)
+        (bindings_part b (is_nameable (length row.body.bindings)) _)
+        (labels_part b (is_nameable (length row.body.labels)))
+        (rest_part b (is_typed_body_known world row))
 
 -- Groups of tables.
 
-pub items_found : (world : HirDatabase) → first_unmet C1 world (of_items world) ≡ wrong_item world
-unfolding first_unmet
+pub items_found : (world : HirDatabase) → FindsFailing (Meets C1 world) (of_items world) (wrong_item world)
 items_found world =
-    let p = λ (place : Place). not (meets C1 world place) in
-    items p world _ _ _ _
-    (length_asked p Crates world.crates refl (λ i. refl))
-    (table_asked p Functions (is_function_named world) world.functions refl (λ i row at. there_asked (is_function_named world) _ row at))
-    (table_asked p Consts (is_const_named world) world.consts refl (λ i row at. there_asked (is_const_named world) _ row at))
-    (table_asked p Statics (is_static_named world) world.statics refl (λ i row at. there_asked (is_static_named world) _ row at))
+    items (Meets C1 world) world _ _ _ _
+    (length_asked (Meets C1 world) Crates (length world.crates) world.crates (as_tested _) (λ i. refl))
+    (table_asked (Meets C1 world) Functions (length world.functions) (is_function_named world) world.functions (as_tested _) (λ i row at. asked (is_function_named world) (slice_get world.functions i) row at))
+    (table_asked (Meets C1 world) Consts (length world.consts) (is_const_named world) world.consts (as_tested _) (λ i row at. asked (is_const_named world) (slice_get world.consts i) row at))
+    (table_asked (Meets C1 world) Statics (length world.statics) (is_static_named world) world.statics (as_tested _) (λ i row at. asked (is_static_named world) (slice_get world.statics i) row at))
 
-pub adts_found : (world : HirDatabase) → first_unmet C1 world (of_adts world) ≡ wrong_adt world
-unfolding first_unmet
+pub adts_found : (world : HirDatabase) → FindsFailing (Meets C1 world) (of_adts world) (wrong_adt world)
 adts_found world =
-    let p = λ (place : Place). not (meets C1 world place) in
-    adts p world _ _ _ _
-    (table_asked p Structs (is_struct_named world) world.structs refl (λ i row at. there_asked (is_struct_named world) _ row at))
-    (table_asked p Unions (is_struct_named world) world.unions refl (λ i row at. there_asked (is_struct_named world) _ row at))
-    (table_asked p Enums (is_enum_named world) world.enums refl (λ i row at. there_asked (is_enum_named world) _ row at))
-    (table_asked p Variants (is_variant_named world) world.variants refl (λ i row at. there_asked (is_variant_named world) _ row at))
+    adts (Meets C1 world) world _ _ _ _
+    (table_asked (Meets C1 world) Structs (length world.structs) (is_struct_named world) world.structs (as_tested _) (λ i row at. asked (is_struct_named world) (slice_get world.structs i) row at))
+    (table_asked (Meets C1 world) Unions (length world.unions) (is_struct_named world) world.unions (as_tested _) (λ i row at. asked (is_struct_named world) (slice_get world.unions i) row at))
+    (table_asked (Meets C1 world) Enums (length world.enums) (is_enum_named world) world.enums (as_tested _) (λ i row at. asked (is_enum_named world) (slice_get world.enums i) row at))
+    (table_asked (Meets C1 world) Variants (length world.variants) (is_variant_named world) world.variants (as_tested _) (λ i row at. asked (is_variant_named world) (slice_get world.variants i) row at))
 
-pub names_found : (world : HirDatabase) → first_unmet C1 world (of_names world) ≡ wrong_trait_or_param world
-unfolding first_unmet
+pub names_found : (world : HirDatabase) → FindsFailing (Meets C1 world) (of_names world) (wrong_trait_or_param world)
 names_found world =
-    let p = λ (place : Place). not (meets C1 world place) in
-    names p world _ _ _ _
-    (length_asked p Traits world.traits refl (λ i. refl))
-    (length_asked p Aliases world.aliases refl (λ i. refl))
-    (length_asked p TypeParams world.type_params refl (λ i. refl))
-    (table_asked p ConstParams (is_const_param_named world) world.const_params refl (λ i row at. there_asked (is_const_param_named world) _ row at))
+    names (Meets C1 world) world _ _ _ _
+    (length_asked (Meets C1 world) Traits (length world.traits) world.traits (as_tested _) (λ i. refl))
+    (length_asked (Meets C1 world) Aliases (length world.aliases) world.aliases (as_tested _) (λ i. refl))
+    (length_asked (Meets C1 world) TypeParams (length world.type_params) world.type_params (as_tested _) (λ i. refl))
+    (table_asked (Meets C1 world) ConstParams (length world.const_params) (is_const_param_named world) world.const_params (as_tested _) (λ i row at. asked (is_const_param_named world) (slice_get world.const_params i) row at))
 
-pub closures_found : (world : HirDatabase) → first_unmet C1 world (of_table Closures world.closures) ≡ wrong_table Closures (is_closure_named world) world.closures
-unfolding first_unmet
+pub closures_found : (world : HirDatabase) → FindsFailing (Meets C1 world) (of_table Closures world.closures) (wrong_table Closures (is_closure_named world) world.closures)
 closures_found world =
-    table_asked (λ (place : Place). not (meets C1 world place)) Closures (is_closure_named world) world.closures refl (λ i row at. there_asked (is_closure_named world) _ row at)
+    table_asked (Meets C1 world) Closures (length world.closures) (is_closure_named world) world.closures (as_tested _) (λ i row at. asked (is_closure_named world) (slice_get world.closures i) row at)
 
-pub bodies_found : (world : HirDatabase) → first_unmet C1 world (of_bodies 0 world.bodies) ≡ first_found (wrong_part_in world) 0 world.bodies
-unfolding first_unmet
-bodies_found world = each_body (λ place. not (meets C1 world place)) (wrong_part_in world) world.bodies (ids_in_body world)
+pub code_found : (world : HirDatabase) (closure body : Option Place) → FindsFailing (Meets C1 world) (of_table Closures world.closures) closure → FindsFailing (Meets C1 world) (of_bodies 0 world.bodies) body → FindsFailing (Meets C1 world) (of_code world) (option_or closure (cond (is_nameable (length world.bodies)) body (Some (Table Bodies))))
+code_found world closure body closures bodies =
+    code (Meets C1 world) world closure _ closures (headed (Meets C1 world) (Table Bodies) (of_bodies 0 world.bodies) (is_nameable (length world.bodies)) body (as_tested _) bodies)
 
-pub code_found : (world : HirDatabase) → first_unmet C1 world (of_code world) ≡ option_or (first_unmet C1 world (of_table Closures world.closures)) (cond (is_nameable (length world.bodies)) (first_unmet C1 world (of_bodies 0 world.bodies)) (Some (Table Bodies)))
-unfolding first_unmet
-code_found world =
-    let p = λ (place : Place). not (meets C1 world place) in
-    code p world _ _ refl (headed p (Table Bodies) (of_bodies 0 world.bodies) (is_nameable (length world.bodies)) _ refl refl)
-
-pub keyed_found : (world : HirDatabase) → first_unmet C1 world (of_keyed_rows world) ≡ wrong_keyed_row world
-unfolding first_unmet
+pub keyed_found : (world : HirDatabase) → FindsFailing (Meets C1 world) (of_keyed_rows world) (wrong_keyed_row world)
 keyed_found world =
-    let p = λ (place : Place). not (meets C1 world place) in
-    keyed p world _ _ _ _
-    (rows_first p Layouts (λ i (row : Ty × Layout). is_layout_named world row && has_new_type world i row) world.layouts refl
-    (λ i row at. there_asked (λ r. is_layout_named world r && has_new_type world i r) _ row at))
-    (rows_first p Normals (λ i (row : AliasId × GenericArgs × Ty). is_normal_named world row && has_new_alias world i row) world.normals refl
-    (λ i row at. there_asked (λ r. is_normal_named world r && has_new_alias world i r) _ row at))
-    (rows_first p Impls (λ i (row : ImplRow). is_impl_named world row && has_new_function world i row) world.impls refl
-    (λ i row at. there_asked (λ r. is_impl_named world r && has_new_function world i r) _ row at))
-    (rows_first p ConstImpls (λ i (row : ConstImplRow). is_const_impl_named world row && has_new_const world i row) world.const_impls refl
-    (λ i row at. there_asked (λ r. is_const_impl_named world r && has_new_const world i r) _ row at))
+    keyed (Meets C1 world) world _ _ _ _
+    (rows_first (Meets C1 world) Layouts (λ i (row : Ty × Layout). is_layout_named world row && has_new_type world i row) world.layouts refl
+    (λ i row at. asked (λ r. is_layout_named world r && has_new_type world i r) (slice_get world.layouts i) row at))
+    (rows_first (Meets C1 world) Normals (λ i (row : AliasId × GenericArgs × Ty). is_normal_named world row && has_new_alias world i row) world.normals refl
+    (λ i row at. asked (λ r. is_normal_named world r && has_new_alias world i r) (slice_get world.normals i) row at))
+    (rows_first (Meets C1 world) Impls (λ i (row : ImplRow). is_impl_named world row && has_new_function world i row) world.impls refl
+    (λ i row at. asked (λ r. is_impl_named world r && has_new_function world i r) (slice_get world.impls i) row at))
+    (rows_first (Meets C1 world) ConstImpls (λ i (row : ConstImplRow). is_const_impl_named world row && has_new_const world i row) world.const_impls refl
+    (λ i row at. asked (λ r. is_const_impl_named world r && has_new_const world i r) (slice_get world.const_impls i) row at))
 
--- the functions that the world names itself
+-- The functions that the world names itself.
 
-three_asked : (f g h : Place) (a b c : Bool) → cond (not a) (Some f) (cond (not b) (Some g) (cond (not c) (Some h) None)) ≡ option_or (cond a None (Some f)) (option_or (cond b None (Some g)) (cond c None (Some h)))
-three_asked f g h false b c = refl
-three_asked f g h true false c = refl
-three_asked f g h true true false = refl
-three_asked f g h true true true = refl
+three : (world : HirDatabase) (f g h : Place) (a b c : Bool) → Decides a (Meets C1 world f) → Decides b (Meets C1 world g) → Decides c (Meets C1 world h) → FindsFailing (Meets C1 world) (f ∷ g ∷ h ∷ []) (option_or (cond a None (Some f)) (option_or (cond b None (Some g)) (cond c None (Some h))))
+three world f g h a b c d e i =
+    joined (Meets C1 world) (f ∷ []) (g ∷ h ∷ []) _ _ (single (Meets C1 world) f a d)
+    (joined (Meets C1 world) (g ∷ []) (h ∷ []) _ _ (single (Meets C1 world) g b e) (single (Meets C1 world) h c i))
 
-pub drop_or_deref_found : (world : HirDatabase) → first_unmet C1 world (Function Drop ∷ Function Deref ∷ Function DerefMut ∷ []) ≡ wrong_drop_or_deref world
-unfolding first_unmet
+pub drop_or_deref_found : (world : HirDatabase) → FindsFailing (Meets C1 world) (Function Drop ∷ Function Deref ∷ Function DerefMut ∷ []) (wrong_drop_or_deref world)
 drop_or_deref_found world =
-    three_asked (Function Drop) (Function Deref) (Function DerefMut) (is_function_known world world.drop_fn) (is_function_known world world.deref_fn) (is_function_known world world.deref_mut_fn)
+    three world (Function Drop) (Function Deref) (Function DerefMut) (is_function_known world world.drop_fn) (is_function_known world world.deref_fn) (is_function_known world world.deref_mut_fn) (as_tested _) (as_tested _) (as_tested _)
 
-pub call_found : (world : HirDatabase) → first_unmet C1 world (Function Call ∷ Function CallMut ∷ Function CallOnce ∷ []) ≡ wrong_call world
-unfolding first_unmet
+pub call_found : (world : HirDatabase) → FindsFailing (Meets C1 world) (Function Call ∷ Function CallMut ∷ Function CallOnce ∷ []) (wrong_call world)
 call_found world =
-    three_asked (Function Call) (Function CallMut) (Function CallOnce) (is_function_known world world.call_fn) (is_function_known world world.call_mut_fn) (is_function_known world world.call_once_fn)
+    three world (Function Call) (Function CallMut) (Function CallOnce) (is_function_known world world.call_fn) (is_function_known world world.call_mut_fn) (is_function_known world world.call_once_fn) (as_tested _) (as_tested _) (as_tested _)
 
 -- all places, by what is found in each group
-pub id_found : (world : HirDatabase) → failing_place C1 world
-    ≡ option_or (first_unmet C1 world (of_items world))
-    (option_or (first_unmet C1 world (of_adts world))
-    (option_or (first_unmet C1 world (of_names world))
-    (option_or (first_unmet C1 world (of_code world))
-    (option_or (first_unmet C1 world (of_keyed_rows world))
-    (option_or (first_unmet C1 world (Function Drop ∷ Function Deref ∷ Function DerefMut ∷ [])) (first_unmet C1 world (Function Call ∷ Function CallMut ∷ Function CallOnce ∷ [])))))))
-unfolding failing_place first_unmet
-id_found world =
-    let p = λ (place : Place). not (meets C1 world place) in
-    all_places p world _ _ _ _ _ _ refl refl refl refl refl
-    (joined p (Function Drop ∷ Function Deref ∷ Function DerefMut ∷ []) (Function Call ∷ Function CallMut ∷ Function CallOnce ∷ []) _ _ refl refl)
+pub id_found : (world : HirDatabase) (items adts names code keyed drops calls : Option Place) → FindsFailing (Meets C1 world) (of_items world) items → FindsFailing (Meets C1 world) (of_adts world) adts → FindsFailing (Meets C1 world) (of_names world) names → FindsFailing (Meets C1 world) (of_code world) code → FindsFailing (Meets C1 world) (of_keyed_rows world) keyed
+    → FindsFailing (Meets C1 world) (Function Drop ∷ Function Deref ∷ Function DerefMut ∷ []) drops → FindsFailing (Meets C1 world) (Function Call ∷ Function CallMut ∷ Function CallOnce ∷ []) calls → FindsUnmet C1 world (option_or items (option_or adts (option_or names (option_or code (option_or keyed (option_or drops calls))))))
+id_found world items adts names code keyed drops calls e f g h i j k =
+    all_places (Meets C1 world) world items adts names code keyed (option_or drops calls) e f g h i
+    (joined (Meets C1 world) (Function Drop ∷ Function Deref ∷ Function DerefMut ∷ []) (Function Call ∷ Function CallMut ∷ Function CallOnce ∷ []) drops calls j k)

@@ -1,188 +1,158 @@
--- The first place that doesn't meet a row of the check is the one that the code finds: the rows on trees, jumps, resolution, layouts, tags and agreement.
-use Rattle.std.proofs.Common.{◌≡◌, ℕ, not, Option, Some, None, refl, ◌∙◌, ap}
-use Rattle.std.specs.List.{find, slice_get}
+-- The code finds the first place that doesn't meet a row of the check: the rows on trees, jumps, resolution, layouts, tags and agreement.
+use Rattle.std.proofs.Common.{◌≡◌, ℕ, ◌<◌, Bool, true, false, Option, Some, None, Decides, IfSome, refl, ◌∙◌, ap, subst}
+use Rattle.std.specs.List.{slice_get}
 use Rattle.std.specs.Option.{option_map, option_or}
+use Rattle.types.specs.declared.ty.Ty.{Ty}
 use Rattle.world.specs.declared.database.BodyRow.{BodyRow}
 use Rattle.world.specs.declared.database.HirDatabase.{HirDatabase}
-use Rattle.world.specs.declared.expr.Expr.{Expr}
-use Rattle.world.specs.declared.pat.Pat.{Pat}
-use Rattle.check_items.specs.Agree.{has_all_params, is_closure_row, is_in_place, wrong_variant}
+use Rattle.world.specs.declared.layout.Layout.{Layout}
+use Rattle.check_items.specs.Agree.{IsListedRight, IsRowListedRight, has_all_params, is_closure_row}
 use Rattle.check_items.specs.Closed.{is_const_impl_closed, is_impl_closed, is_normal_closed}
-use Rattle.check_layouts.proofs.Decided.{is_layout_right, is_tag_right}
+use Rattle.check_layouts.proofs.Decided.{is_tag_right, tag_answer}
+use Rattle.check_layouts.specs.Laid.{HasRightTag, IsLaidOut, IsRowLaidOut}
+use Rattle.check_layouts.specs.Sizes.{layout_above}
 use Rattle.check_trees.specs.Ellipsis.{is_ellipsis_inside}
-use Rattle.check_trees.specs.Jumps.{is_jump_inside}
-use Rattle.check_trees.specs.Tree.{is_expr_in_order, is_pat_in_order}
-use Rattle.check_trees.specs.declared.node.BodyNode.TheVariants as node
-use Rattle.world_check.specs.Meets.{if_at, if_there}
-use Rattle.world_check.specs.Rows.{failing_place, first_unmet}
-use Rattle.world_check.specs.Tests.{meets}
-use Rattle.world_check.specs.WorldPlaces.{node_place, of_bodies, of_body}
+use Rattle.world_check.specs.Meets.{Meets}
+use Rattle.world_check.specs.Rows.{FindsFailing, FindsUnmet}
+use Rattle.world_check.specs.WorldPlaces.{of_bodies, of_body, of_table, places}
 use Rattle.world_check.specs.declared.fault.CheckRow.TheVariants.{C2, C3, C4, C5, C6, C7}
-use Rattle.world_check.specs.declared.place.NodeKind.TheVariants.{Exprs, Pats, Bindings}
+use Rattle.world_check.specs.declared.place.NodeKind.TheVariants.{Exprs, Pats, Bindings, Labels}
 use Rattle.world_check.specs.declared.place.Place.{Place}
-use Rattle.world_check.specs.declared.place.Place.TheVariants.{Node, Row}
-use Rattle.world_check.specs.declared.place.TableName.TheVariants.{Crates, Functions, Consts, Statics, Structs, Unions, Enums, Variants, Closures, Layouts, Normals, Impls, ConstImpls}
-use Rattle.world_check.proofs.Searches.{nodes_first, nodes_silent, nodes_wrong, or_both, or_none, rows_first, rows_wrong, table_silent}
-use Rattle.world_check.proofs.Segments.{adts, adts_silent, all_places, bodies_silent, body_asked, code, each_body, items, items_silent, keyed, keyed_silent, names_silent, one_body, there_asked}
-use Rattle.world_check.proofs.Walks.{first_found, wrong_agreement, wrong_ellipsis_in, wrong_jump_in, wrong_label, wrong_layout, wrong_node_in, wrong_resolution, wrong_row, wrong_tag, wrong_tree}
+use Rattle.world_check.specs.declared.place.Place.TheVariants.{Table, Row, Nodes, Node, Function}
+use Rattle.world_check.specs.declared.place.NamedFunction.{NamedFunction}
+use Rattle.world_check.specs.declared.place.NodeKind.{NodeKind}
+use Rattle.world_check.specs.declared.place.TableName.{TableName}
+use Rattle.world_check.specs.declared.place.TableName.TheVariants.{Crates, Functions, Consts, Statics, Structs, Unions, Enums, Variants, Traits, Aliases, TypeParams, ConstParams, Closures, Bodies, Layouts, Normals, Impls, ConstImpls}
+use Rattle.world_check.proofs.First.{met_here}
+use Rattle.world_check.proofs.Laid.{of_there}
+use Rattle.world_check.proofs.Searches.{nodes_met, nodes_wrong, rows_found, rows_wrong, table_met}
+use Rattle.world_check.proofs.Segments.{adts, adts_met, all_places, asked, asked_in, bodies_met, code, functions_met, items, items_met, keyed, keyed_met, names_met, one_body, or_none, to_there, two_met}
+use Rattle.world_check.proofs.Walks.{wrong_ellipsis_in, wrong_resolution, wrong_row, wrong_tag}
 
-in_nodes : (b : ℕ) (e p : Option ℕ) → option_or (option_map (Node b Exprs) e) (option_or (option_map (Node b Pats) p) None) ≡ option_map (node_place b) (option_or (option_map node.Expr e) (option_map node.Pat p))
-in_nodes b None None = refl
-in_nodes b None (Some p) = refl
-in_nodes b (Some e) p = refl
+-- Rows that ask only of bodies.
 
-tree_in_body : (world : HirDatabase) (b : ℕ) (row : BodyRow) → slice_get world.bodies b ≡ Some row → find (λ place. not (meets C2 world place)) (of_body b row.body) ≡ wrong_node_in b row
-tree_in_body world b row there =
-    one_body (λ place. not (meets C2 world place)) b row.body _ _ None None
-    (nodes_first (λ place. not (meets C2 world place)) b Exprs (is_expr_in_order row.body) row.body.exprs refl expr)
-    (nodes_first (λ place. not (meets C2 world place)) b Pats (is_pat_in_order row.body) row.body.pats refl pat)
-    (nodes_silent (λ place. not (meets C2 world place)) b Bindings row.body.bindings refl (λ i. refl))
-    refl
-    ∙ in_nodes b _ _
-  where
-    expr : (e : ℕ) (found : Expr) → slice_get row.body.exprs e ≡ Some found → not (meets C2 world (Node b Exprs e)) ≡ not (is_expr_in_order row.body e found)
-    expr e found at =
-        body_asked world b row (λ body. if_at (is_expr_in_order body) body.exprs e) there
-        ∙ there_asked (is_expr_in_order row.body e) _ found at
+pub tree_found : (world : HirDatabase) (found : Option Place) → FindsFailing (Meets C2 world) (of_bodies 0 world.bodies) found → FindsUnmet C2 world found
+tree_found world found bodies =
+    subst (FindsUnmet C2 world) (or_none found)
+    (all_places (Meets C2 world) world None None None found None None
+    (items_met (Meets C2 world) world (λ table. tt) (λ i. tt) (λ i. tt) (λ i. tt) (λ i. tt))
+    (adts_met (Meets C2 world) world (λ table. tt) (λ i. tt) (λ i. tt) (λ i. tt) (λ i. tt))
+    (names_met (Meets C2 world) world (λ table. tt) (λ i. tt) (λ i. tt) (λ i. tt) (λ i. tt))
+    (code (Meets C2 world) world None found (table_met (Meets C2 world) Closures world.closures tt (λ i. tt)) (met_here (Meets C2 world) (Table Bodies) (of_bodies 0 world.bodies) found tt bodies))
+    (keyed_met (Meets C2 world) world (λ table. tt) (λ i. tt) (λ i. tt) (λ i. tt) (λ i. tt))
+    (functions_met (Meets C2 world) (λ name. tt)))
 
-    pat : (p : ℕ) (found : Pat) → slice_get row.body.pats p ≡ Some found → not (meets C2 world (Node b Pats p)) ≡ not (is_pat_in_order row.body p found)
-    pat p found at =
-        body_asked world b row (λ body. if_at (is_pat_in_order body) body.pats p) there
-        ∙ there_asked (is_pat_in_order row.body p) _ found at
+pub label_found : (world : HirDatabase) (found : Option Place) → FindsFailing (Meets C3 world) (of_bodies 0 world.bodies) found → FindsUnmet C3 world found
+label_found world found bodies =
+    subst (FindsUnmet C3 world) (or_none found)
+    (all_places (Meets C3 world) world None None None found None None
+    (items_met (Meets C3 world) world (λ table. tt) (λ i. tt) (λ i. tt) (λ i. tt) (λ i. tt))
+    (adts_met (Meets C3 world) world (λ table. tt) (λ i. tt) (λ i. tt) (λ i. tt) (λ i. tt))
+    (names_met (Meets C3 world) world (λ table. tt) (λ i. tt) (λ i. tt) (λ i. tt) (λ i. tt))
+    (code (Meets C3 world) world None found (table_met (Meets C3 world) Closures world.closures tt (λ i. tt)) (met_here (Meets C3 world) (Table Bodies) (of_bodies 0 world.bodies) found tt bodies))
+    (keyed_met (Meets C3 world) world (λ table. tt) (λ i. tt) (λ i. tt) (λ i. tt) (λ i. tt))
+    (functions_met (Meets C3 world) (λ name. tt)))
 
-pub tree_found : (world : HirDatabase) → failing_place C2 world ≡ wrong_tree world
-unfolding failing_place first_unmet
-tree_found world =
-    let p = λ (place : Place). not (meets C2 world place) in
-    all_places p world None None None (wrong_tree world) None None
-    (items_silent p world (λ table. refl) (λ i. refl) (λ i. refl) (λ i. refl) (λ i. refl))
-    (adts_silent p world (λ table. refl) (λ i. refl) (λ i. refl) (λ i. refl) (λ i. refl))
-    (names_silent p world (λ table. refl) (λ i. refl) (λ i. refl) (λ i. refl) (λ i. refl))
-    (code p world None (wrong_tree world) (table_silent p Closures world.closures refl (λ i. refl)) (each_body p wrong_node_in world.bodies (tree_in_body world)))
-    (keyed_silent p world (λ table. refl) (λ i. refl) (λ i. refl) (λ i. refl) (λ i. refl))
-    refl
-    ∙ or_none (wrong_tree world)
+-- Rows that ask of rows with keys.
 
-jump_in_body : (world : HirDatabase) (b : ℕ) (row : BodyRow) → slice_get world.bodies b ≡ Some row → find (λ place. not (meets C3 world place)) (of_body b row.body) ≡ wrong_jump_in b row
-jump_in_body world b row there =
-    one_body (λ place. not (meets C3 world place)) b row.body _ None None None
-    (nodes_first (λ place. not (meets C3 world place)) b Exprs (is_jump_inside row.body) row.body.exprs refl expr)
-    (nodes_silent (λ place. not (meets C3 world place)) b Pats row.body.pats refl (λ i. refl))
-    (nodes_silent (λ place. not (meets C3 world place)) b Bindings row.body.bindings refl (λ i. refl))
-    refl
-    ∙ or_none _
-  where
-    expr : (e : ℕ) (found : Expr) → slice_get row.body.exprs e ≡ Some found → not (meets C3 world (Node b Exprs e)) ≡ not (is_jump_inside row.body e found)
-    expr e found at =
-        body_asked world b row (λ body. if_at (is_jump_inside body) body.exprs e) there
-        ∙ there_asked (is_jump_inside row.body e) _ found at
-
-pub jump_found : (world : HirDatabase) → failing_place C3 world ≡ wrong_label world
-unfolding failing_place first_unmet
-jump_found world =
-    let p = λ (place : Place). not (meets C3 world place) in
-    all_places p world None None None (wrong_label world) None None
-    (items_silent p world (λ table. refl) (λ i. refl) (λ i. refl) (λ i. refl) (λ i. refl))
-    (adts_silent p world (λ table. refl) (λ i. refl) (λ i. refl) (λ i. refl) (λ i. refl))
-    (names_silent p world (λ table. refl) (λ i. refl) (λ i. refl) (λ i. refl) (λ i. refl))
-    (code p world None (wrong_label world) (table_silent p Closures world.closures refl (λ i. refl)) (each_body p wrong_jump_in world.bodies (jump_in_body world)))
-    (keyed_silent p world (λ table. refl) (λ i. refl) (λ i. refl) (λ i. refl) (λ i. refl))
-    refl
-    ∙ or_none (wrong_label world)
-
-pub resolution_found : (world : HirDatabase) → failing_place C4 world ≡ wrong_resolution world
-unfolding failing_place first_unmet
+pub resolution_found : (world : HirDatabase) → FindsUnmet C4 world (wrong_resolution world)
 resolution_found world =
-    let p = λ (place : Place). not (meets C4 world place) in
-    all_places p world None None None None (wrong_resolution world) None
-    (items_silent p world (λ table. refl) (λ i. refl) (λ i. refl) (λ i. refl) (λ i. refl))
-    (adts_silent p world (λ table. refl) (λ i. refl) (λ i. refl) (λ i. refl) (λ i. refl))
-    (names_silent p world (λ table. refl) (λ i. refl) (λ i. refl) (λ i. refl) (λ i. refl))
-    (code p world None None (table_silent p Closures world.closures refl (λ i. refl)) (bodies_silent p 0 world.bodies (λ b kind. refl) (λ b kind i. refl) (λ b. refl)))
-    (keyed p world None _ _ _
-    (table_silent p Layouts world.layouts refl (λ i. refl))
-    (rows_wrong p Normals is_normal_closed world.normals refl (λ i row at. there_asked is_normal_closed _ row at))
-    (rows_wrong p Impls is_impl_closed world.impls refl (λ i row at. there_asked is_impl_closed _ row at))
-    (rows_wrong p ConstImpls is_const_impl_closed world.const_impls refl (λ i row at. there_asked is_const_impl_closed _ row at)))
-    refl
-    ∙ or_none (wrong_resolution world)
+    subst (FindsUnmet C4 world) (or_none (wrong_resolution world))
+    (all_places (Meets C4 world) world None None None None (wrong_resolution world) None
+    (items_met (Meets C4 world) world (λ table. refl) (λ i. refl) (λ i. refl) (λ i. refl) (λ i. refl))
+    (adts_met (Meets C4 world) world (λ table. refl) (λ i. refl) (λ i. refl) (λ i. refl) (λ i. refl))
+    (names_met (Meets C4 world) world (λ table. refl) (λ i. refl) (λ i. refl) (λ i. refl) (λ i. refl))
+    (code (Meets C4 world) world None None (table_met (Meets C4 world) Closures world.closures refl (λ i. refl)) (met_here (Meets C4 world) (Table Bodies) (of_bodies 0 world.bodies) None refl (bodies_met (Meets C4 world) world.bodies (λ b kind. refl) (λ b kind i. refl) (λ b. refl))))
+    (keyed (Meets C4 world) world None _ _ _
+    (table_met (Meets C4 world) Layouts world.layouts refl (λ i. refl))
+    (rows_wrong (Meets C4 world) Normals is_normal_closed world.normals refl (λ i row at. asked is_normal_closed (slice_get world.normals i) row at))
+    (rows_wrong (Meets C4 world) Impls is_impl_closed world.impls refl (λ i row at. asked is_impl_closed (slice_get world.impls i) row at))
+    (rows_wrong (Meets C4 world) ConstImpls is_const_impl_closed world.const_impls refl (λ i row at. asked is_const_impl_closed (slice_get world.const_impls i) row at)))
+    (functions_met (Meets C4 world) (λ name. refl)))
 
-pub layout_found : (world : HirDatabase) → failing_place C5 world ≡ wrong_layout world
-unfolding failing_place first_unmet
-layout_found world =
-    let p = λ (place : Place). not (meets C5 world place) in
-    all_places p world None None None None (option_or (wrong_layout world) None) None
-    (items_silent p world (λ table. refl) (λ i. refl) (λ i. refl) (λ i. refl) (λ i. refl))
-    (adts_silent p world (λ table. refl) (λ i. refl) (λ i. refl) (λ i. refl) (λ i. refl))
-    (names_silent p world (λ table. refl) (λ i. refl) (λ i. refl) (λ i. refl) (λ i. refl))
-    (code p world None None (table_silent p Closures world.closures refl (λ i. refl)) (bodies_silent p 0 world.bodies (λ b kind. refl) (λ b kind i. refl) (λ b. refl)))
-    (keyed p world _ None None None
-    (rows_first p Layouts (is_layout_right world) world.layouts refl (λ i row at. there_asked (is_layout_right world i) _ row at))
-    (table_silent p Normals world.normals refl (λ i. refl))
-    (table_silent p Impls world.impls refl (λ i. refl))
-    (table_silent p ConstImpls world.const_impls refl (λ i. refl)))
-    refl
-    ∙ or_none (option_or (wrong_layout world) None)
-    ∙ or_none (wrong_layout world)
+abbrev is_layouts : TableName → Bool
+is_layouts Layouts = true
+is_layouts _ = false
 
-pub tag_found : (world : HirDatabase) → failing_place C6 world ≡ wrong_tag world
-unfolding failing_place first_unmet
+-- a property that only the rows of `layouts` may lack
+layouts_found : (P : Place → Type 0) (world : HirDatabase) (found : Option Place) → ((table : TableName) → P (Table table)) → ((table : TableName) (i : ℕ) → is_layouts table ≡ false → P (Row table i)) → ((b : ℕ) (kind : NodeKind) → P (Nodes b kind)) → ((b : ℕ) (kind : NodeKind) (i : ℕ) → P (Node b kind i)) → ((name : NamedFunction) → P (Function name)) → FindsFailing P (of_table Layouts world.layouts) found → FindsFailing P (places world) found
+layouts_found P world found table row list node function layouts =
+    subst (FindsFailing P (places world)) (or_none (option_or found None) ∙ or_none found)
+    (all_places P world None None None None (option_or found None) None
+    (items_met P world table (λ i. row Crates i refl) (λ i. row Functions i refl) (λ i. row Consts i refl) (λ i. row Statics i refl))
+    (adts_met P world table (λ i. row Structs i refl) (λ i. row Unions i refl) (λ i. row Enums i refl) (λ i. row Variants i refl))
+    (names_met P world table (λ i. row Traits i refl) (λ i. row Aliases i refl) (λ i. row TypeParams i refl) (λ i. row ConstParams i refl))
+    (code P world None None (table_met P Closures world.closures (table Closures) (λ i. row Closures i refl)) (met_here P (Table Bodies) (of_bodies 0 world.bodies) None (table Bodies) (bodies_met P world.bodies list node (λ b. row Bodies b refl))))
+    (keyed P world found None None None layouts
+    (table_met P Normals world.normals (table Normals) (λ i. row Normals i refl))
+    (table_met P Impls world.impls (table Impls) (λ i. row Impls i refl))
+    (table_met P ConstImpls world.const_impls (table ConstImpls) (λ i. row ConstImpls i refl)))
+    (functions_met P function))
+
+unlaid : (world : HirDatabase) (table : TableName) (i : ℕ) → is_layouts table ≡ false → Meets C5 world (Row table i)
+unlaid world Layouts i e = cc
+unlaid world _ i e = tt
+
+pub layout_found : (world : HirDatabase) (found : Option ℕ) → (found ≡ None → (i : ℕ) → IsRowLaidOut world i) → IfSome found (λ i. IsRowLaidOut world i → ⊥) → IfSome found (λ i. (j : ℕ) → j < i → IsRowLaidOut world j) → FindsUnmet C5 world (option_map (Row Layouts) found)
+layout_found world found none wrong first =
+    layouts_found (Meets C5 world) world (option_map (Row Layouts) found) (λ table. tt) (unlaid world) (λ b kind. tt) (λ b kind i. tt) (λ name. tt)
+    (rows_found (Meets C5 world) Layouts (λ (row : Ty × Layout) i. IsLaidOut world (layout_above world i) row.0 row.1) world.layouts found tt (λ i fact. fact) (λ i fact. fact) none wrong first)
+
+untagged : (world : HirDatabase) (table : TableName) (i : ℕ) → is_layouts table ≡ false → Meets C6 world (Row table i)
+untagged world Layouts i e = cc
+untagged world _ i e = tt
+
+pub tag_found : (world : HirDatabase) → FindsUnmet C6 world (wrong_tag world)
 tag_found world =
-    let p = λ (place : Place). not (meets C6 world place) in
-    all_places p world None None None None (option_or (wrong_tag world) None) None
-    (items_silent p world (λ table. refl) (λ i. refl) (λ i. refl) (λ i. refl) (λ i. refl))
-    (adts_silent p world (λ table. refl) (λ i. refl) (λ i. refl) (λ i. refl) (λ i. refl))
-    (names_silent p world (λ table. refl) (λ i. refl) (λ i. refl) (λ i. refl) (λ i. refl))
-    (code p world None None (table_silent p Closures world.closures refl (λ i. refl)) (bodies_silent p 0 world.bodies (λ b kind. refl) (λ b kind i. refl) (λ b. refl)))
-    (keyed p world _ None None None
-    (rows_wrong p Layouts (is_tag_right world) world.layouts refl (λ i row at. there_asked (is_tag_right world) _ row at))
-    (table_silent p Normals world.normals refl (λ i. refl))
-    (table_silent p Impls world.impls refl (λ i. refl))
-    (table_silent p ConstImpls world.const_impls refl (λ i. refl)))
-    refl
-    ∙ or_none (option_or (wrong_tag world) None)
-    ∙ or_none (wrong_tag world)
-
-ellipsis_in_body : (world : HirDatabase) (b : ℕ) (row : BodyRow) → slice_get world.bodies b ≡ Some row → find (λ place. not (meets C7 world place)) (of_body b row.body) ≡ wrong_ellipsis_in b row
-ellipsis_in_body world b row there =
-    one_body (λ place. not (meets C7 world place)) b row.body None _ None None
-    (nodes_silent (λ place. not (meets C7 world place)) b Exprs row.body.exprs refl (λ i. refl))
-    (nodes_wrong (λ place. not (meets C7 world place)) b Pats is_ellipsis_inside row.body.pats refl pat)
-    (nodes_silent (λ place. not (meets C7 world place)) b Bindings row.body.bindings refl (λ i. refl))
-    refl
-    ∙ or_none _
+    layouts_found (Meets C6 world) world (wrong_tag world) (λ table. tt) (untagged world) (λ b kind. tt) (λ b kind i. tt) (λ name. tt)
+    (rows_wrong (Meets C6 world) Layouts (is_tag_right world) world.layouts tt tagged)
   where
-    pat : (p : ℕ) (found : Pat) → slice_get row.body.pats p ≡ Some found → not (meets C7 world (Node b Pats p)) ≡ not (is_ellipsis_inside found)
-    pat p found at =
-        body_asked world b row (λ body. if_there is_ellipsis_inside (slice_get body.pats p)) there
-        ∙ there_asked is_ellipsis_inside _ found at
+    tagged : (i : ℕ) (row : Ty × Layout) → slice_get world.layouts i ≡ Some row → Decides (is_tag_right world row) (Meets C6 world (Row Layouts i))
+    tagged i row at =
+        let decides = (tag_answer world row).1 in
+        ((λ e. to_there (λ (r : Ty × Layout). HasRightTag world r.0 r.1) (slice_get world.layouts i) row at (decides.0 e)), (λ has. decides.1 (of_there (λ (r : Ty × Layout). HasRightTag world r.0 r.1) (slice_get world.layouts i) row at has)))
 
-pub patterns_found : (world : HirDatabase) → first_unmet C7 world (of_bodies 0 world.bodies) ≡ first_found wrong_ellipsis_in 0 world.bodies
-unfolding first_unmet
-patterns_found world = each_body (λ place. not (meets C7 world place)) wrong_ellipsis_in world.bodies (ellipsis_in_body world)
+-- Rows that agree with others.
 
-joined_rows : (a b c d : Option Place) → option_or (option_or a None) (option_or b (option_or (option_or c d) None)) ≡ option_or a (option_or b (option_or c d))
-joined_rows a b c d = or_both _ _ _ _ (or_none a) (ap (option_or b) (or_none (option_or c d)))
+pub ellipsis_in_body : (world : HirDatabase) (b : ℕ) (row : BodyRow) → slice_get world.bodies b ≡ Some row → FindsFailing (Meets C7 world) (of_body b row.body) (wrong_ellipsis_in b row)
+ellipsis_in_body world b row there =
+    subst (FindsFailing (Meets C7 world) (of_body b row.body)) (or_none (wrong_ellipsis_in b row))
+    (one_body (Meets C7 world) b row.body None (wrong_ellipsis_in b row) None None
+    (nodes_met (Meets C7 world) b Exprs row.body.exprs tt (λ i. tt))
+    (nodes_wrong (Meets C7 world) b Pats is_ellipsis_inside row.body.pats tt (λ p found at. asked_in (λ body. is_ellipsis_inside) (λ body. slice_get body.pats p) (slice_get world.bodies b) row found there at))
+    (nodes_met (Meets C7 world) b Bindings row.body.bindings tt (λ i. tt))
+    (two_met (Meets C7 world) (Nodes b Labels) (Row Bodies b) tt tt))
 
-pub agreement_found : (world : HirDatabase) → failing_place C7 world ≡ wrong_agreement world
-unfolding failing_place first_unmet
-agreement_found world =
-    let p = λ (place : Place). not (meets C7 world place) in
-    all_places p world _ _ None _ None None
-    (items p world None _ None None
-    (table_silent p Crates world.crates refl (λ i. refl))
-    (rows_wrong p Functions (has_all_params world) world.functions refl (λ i row at. there_asked (has_all_params world) _ row at))
-    (table_silent p Consts world.consts refl (λ i. refl))
-    (table_silent p Statics world.statics refl (λ i. refl)))
-    (adts p world None None None _
-    (table_silent p Structs world.structs refl (λ i. refl))
-    (table_silent p Unions world.unions refl (λ i. refl))
-    (table_silent p Enums world.enums refl (λ i. refl))
-    (rows_first p Variants (is_in_place world) world.variants refl (λ i row at. there_asked (is_in_place world i) _ row at)))
-    (names_silent p world (λ table. refl) (λ i. refl) (λ i. refl) (λ i. refl) (λ i. refl))
-    (code p world _ _
-    (rows_wrong p Closures (is_closure_row world) world.closures refl (λ i row at. there_asked (is_closure_row world) _ row at))
-    (each_body p wrong_ellipsis_in world.bodies (ellipsis_in_body world)))
-    (keyed_silent p world (λ table. refl) (λ i. refl) (λ i. refl) (λ i. refl) (λ i. refl))
-    refl
-    ∙ joined_rows (wrong_row Functions (has_all_params world) world.functions) (option_map (Row Variants) (wrong_variant world)) (wrong_row Closures (is_closure_row world) world.closures) (first_found wrong_ellipsis_in 0 world.bodies)
+pub agreement_found : (world : HirDatabase) (unlisted : Option ℕ) (ellipsis : Option Place) → (unlisted ≡ None → (v : ℕ) → IsRowListedRight world v) → IfSome unlisted (λ v. IsRowListedRight world v → ⊥) → IfSome unlisted (λ v. (w : ℕ) → w < v → IsRowListedRight world w) → FindsFailing (Meets C7 world) (of_bodies 0 world.bodies) ellipsis
+    → FindsUnmet C7 world (option_or (wrong_row Functions (has_all_params world) world.functions) (option_or (option_map (Row Variants) unlisted) (option_or (wrong_row Closures (is_closure_row world) world.closures) ellipsis)))
+agreement_found world unlisted ellipsis none wrong first bodies =
+    subst (FindsUnmet C7 world) (tidied functions variants closures ellipsis)
+    (all_places (Meets C7 world) world (option_or functions None) variants None (option_or closures ellipsis) None None
+    (items (Meets C7 world) world None functions None None
+    (table_met (Meets C7 world) Crates world.crates tt (λ i. tt))
+    (rows_wrong (Meets C7 world) Functions (has_all_params world) world.functions tt (λ i row at. asked (has_all_params world) (slice_get world.functions i) row at))
+    (table_met (Meets C7 world) Consts world.consts tt (λ i. tt))
+    (table_met (Meets C7 world) Statics world.statics tt (λ i. tt)))
+    (adts (Meets C7 world) world None None None variants
+    (table_met (Meets C7 world) Structs world.structs tt (λ i. tt))
+    (table_met (Meets C7 world) Unions world.unions tt (λ i. tt))
+    (table_met (Meets C7 world) Enums world.enums tt (λ i. tt))
+    (rows_found (Meets C7 world) Variants (λ row v. IsListedRight world v row) world.variants unlisted tt (λ v fact. fact) (λ v fact. fact) none wrong first))
+    (names_met (Meets C7 world) world (λ table. tt) (λ i. tt) (λ i. tt) (λ i. tt) (λ i. tt))
+    (code (Meets C7 world) world closures ellipsis
+    (rows_wrong (Meets C7 world) Closures (is_closure_row world) world.closures tt (λ i row at. asked (is_closure_row world) (slice_get world.closures i) row at))
+    (met_here (Meets C7 world) (Table Bodies) (of_bodies 0 world.bodies) ellipsis tt bodies))
+    (keyed_met (Meets C7 world) world (λ table. tt) (λ i. tt) (λ i. tt) (λ i. tt) (λ i. tt))
+    (functions_met (Meets C7 world) (λ name. tt)))
+  where
+    functions : Option Place
+    functions = wrong_row Functions (has_all_params world) world.functions
+
+    variants : Option Place
+    variants = option_map (Row Variants) unlisted
+
+    closures : Option Place
+    closures = wrong_row Closures (is_closure_row world) world.closures
+
+    tidied : (a b c d : Option Place) → option_or (option_or a None) (option_or b (option_or (option_or c d) None)) ≡ option_or a (option_or b (option_or c d))
+    tidied a b c d = ap (λ o. option_or o (option_or b (option_or (option_or c d) None))) (or_none a) ∙ ap (λ o. option_or a (option_or b o)) (or_none (option_or c d))

@@ -1,9 +1,8 @@
 -- Where a search for a wrong row finds none, each row passes the test.
-use Rattle.std.proofs.Common.{◌≡◌, ℕ, suc, zero, ◌&&◌, ◌+◌, Bool, true, false, cond, Option, Some, None, List, [], ◌∷◌, refl, sym, ◌∙◌, ap, arith, not}
+use Rattle.std.proofs.Common.{◌≡◌, ℕ, suc, zero, ◌&&◌, ◌+◌, Bool, true, false, cond, Option, Some, None, List, [], ◌∷◌, refl, sym, ◌∙◌, ap, not}
 use Rattle.std.proofs.lemmas.Iterator.Adapters.{position_from-zero}
 use Rattle.std.specs.List.{list_all, position, position_from, slice_get}
 use Rattle.std.specs.Option.{option_map, option_or}
-use Rattle.world.specs.Failing.{first_failing}
 
 -- the two parts of a conjunction
 pub both : (a b : Bool) → (a && b) ≡ true → (a ≡ true) × (b ≡ true)
@@ -18,26 +17,6 @@ neither (Some x) b e = cc
 pub not_mapped : {A B : Type 0} (f : A → B) (o : Option A) → option_map f o ≡ None → o ≡ None
 not_mapped f None e = refl
 not_mapped f (Some x) e = cc
-
-skipped : (b : Bool) (i : ℕ) (rest : Option ℕ) → cond b rest (Some i) ≡ None → (b ≡ true) × (rest ≡ None)
-skipped true i rest e = (refl, e)
-skipped false i rest e = cc
-
-passes_from : {X : Type 0} (test : ℕ → X → Bool) (i k : ℕ) (xs : List X) (x : X) → first_failing test i xs ≡ None → slice_get xs k ≡ Some x → test (i + k) x ≡ true
-passes_from test i k [] x e at = cc
-passes_from test i zero (y ∷ xs) x e at =
-    let here : y ≡ x = cc in
-    let start : i + zero ≡ i = omega arith in
-    ap (λ j. test j x) start ∙ ap (test i) (sym here) ∙ (skipped (test i y) i (first_failing test (i + 1) xs) e).0
-passes_from test i (suc k) (y ∷ xs) x e at =
-    let step : i + suc k ≡ (i + 1) + k = omega arith in
-    ap (λ j. test j x) step ∙ passes_from test (i + 1) k xs x (skipped (test i y) i (first_failing test (i + 1) xs) e).1 at
-
--- where no element is the first to fail a test, each passes it
-pub passes_at : {X : Type 0} (test : ℕ → X → Bool) (k : ℕ) (xs : List X) (x : X) → first_failing test 0 xs ≡ None → slice_get xs k ≡ Some x → test k x ≡ true
-passes_at test k xs x e at =
-    let start : k ≡ 0 + k = omega arith in
-    ap (λ j. test j x) start ∙ passes_from test 0 k xs x e at
 
 not_taken : (b : Bool) (i : ℕ) (rest : Option ℕ) → cond b (Some i) rest ≡ None → (b ≡ false) × (rest ≡ None)
 not_taken true i rest e = cc

@@ -1,14 +1,11 @@
 -- The searches in one typed body find nothing exactly where the body is right by itself.
-use Rattle.std.proofs.Common.{◌≡◌, ℕ, zero, suc, ◌+◌, ◌&&◌, Bool, true, false, cond, not, Option, Some, None, List, [], ◌∷◌, length, is_none, slice_get, Decides, Result, Ok, Err, IfOk, refl, sym, ◌∙◌, ap, subst, arith}
+use Rattle.std.proofs.Common.{◌≡◌, ℕ, zero, suc, ◌+◌, ◌&&◌, Bool, true, false, cond, not, Option, Some, None, List, [], ◌∷◌, length, is_none, is_some, slice_get, Decides, refl, sym, ◌∙◌, ap, subst}
 use Rattle.std.proofs.lemmas.Iterator.Adapters.{position_from-zero}
 use Rattle.std.specs.List.{position, position_from}
 use Rattle.std.specs.Option.{option_map, option_or}
-use Rattle.world.specs.Failing.{first_failing}
 use Rattle.world.specs.declared.body.Body.{Body}
 use Rattle.world.specs.declared.database.HirDatabase.{HirDatabase}
-use Rattle.world.specs.declared.expr.Expr.{Expr}
 use Rattle.world.specs.declared.infer.InferenceResult.{InferenceResult}
-use Rattle.world.specs.declared.pat.Pat.{Pat}
 use Rattle.check_ids.specs.Inferred.{is_inferred_right}
 use Rattle.check_ids.specs.Nodes.{is_binding_in_range, is_expr_in_range, is_pat_in_range}
 use Rattle.check_ids.specs.Parts.{are_roots_known, unless, wrong_in_list, wrong_name, wrong_part}
@@ -17,16 +14,16 @@ use Rattle.check_ids.specs.declared.part.BodyPart.{BodyPart}
 use Rattle.check_ids.specs.declared.part.BodyPart.TheVariants as part
 use Rattle.check_names.specs.Known.{is_nameable}
 use Rattle.check_trees.specs.Ellipsis.{is_ellipsis_inside, wrong_ellipsis}
-use Rattle.check_trees.specs.Jumps.{is_jump_inside, wrong_jump}
-use Rattle.check_trees.specs.Tree.{is_expr_in_order, is_pat_in_order}
-use Rattle.check_trees.specs.Tree as tree
+use Rattle.check_trees.specs.First.{FindsFirst}
+use Rattle.check_trees.specs.Jumps.{IsJumpInside}
+use Rattle.check_trees.specs.Tree.{FindsWrongNode}
+use Rattle.check_trees.specs.declared.node.BodyNode.{BodyNode}
 use Rattle.check_trees.specs.declared.node.BodyNode.TheVariants as node
 use Rattle.world_check.specs.Meets.{if_there, is_list_nameable, is_node_known}
 use Rattle.world_check.specs.Valid.{IsBodyRight}
 use Rattle.world_check.specs.declared.place.NodeKind.{NodeKind}
 use Rattle.world_check.specs.declared.place.NodeKind.TheVariants.{Exprs, Pats, Bindings, Labels}
-use Rattle.world_check.proofs.InOrder.{expr_decides, jump_decides, pat_decides}
-use Rattle.world_check.proofs.Passing.{all_at, all_pass, both, neither, not_mapped, passes_at}
+use Rattle.world_check.proofs.Passing.{all_at, all_pass, both, neither, not_mapped}
 
 no_wrong : {A : Type 0} (o : Option A) → is_none o ≡ true → o ≡ None
 no_wrong None e = refl
@@ -59,16 +56,6 @@ none_from test i (x ∷ xs) h =
 none_fails : {X : Type 0} (test : X → Bool) (xs : List X) → ((k : ℕ) (x : X) → slice_get xs k ≡ Some x → test x ≡ true) → position (λ x. not (test x)) xs ≡ None
 none_fails test xs h = position_from-zero (λ x. not (test x)) xs ∙ none_from test 0 xs h
 
-none_failing : {X : Type 0} (test : ℕ → X → Bool) (i : ℕ) (xs : List X) → ((k : ℕ) (x : X) → slice_get xs k ≡ Some x → test (i + k) x ≡ true) → first_failing test i xs ≡ None
-none_failing test i [] h = refl
-none_failing test i (x ∷ xs) h =
-    let start : i ≡ i + zero = omega arith in
-    ap (λ b. cond b (first_failing test (i + 1) xs) (Some i)) (ap (λ j. test j x) start ∙ h zero x refl)
-    ∙ none_failing test (i + 1) xs (λ k y at. let step : i + 1 + k ≡ i + suc k = omega arith in ap (λ j. test j y) step ∙ h (suc k) y at)
-
-none_failing_at : {X : Type 0} (test : ℕ → X → Bool) (xs : List X) → ((k : ℕ) (x : X) → slice_get xs k ≡ Some x → test k x ≡ true) → first_failing test 0 xs ≡ None
-none_failing_at test xs h = none_failing test 0 xs (λ k x at. let start : 0 + k ≡ k = omega arith in ap (λ j. test j x) start ∙ h k x at)
-
 there : {X : Type 0} (test : X → Bool) (xs : List X) (k : ℕ) → ((x : X) → slice_get xs k ≡ Some x → test x ≡ true) → if_there test (slice_get xs k) ≡ true
 there {X} test xs k h = by (slice_get xs k) h
   where
@@ -90,15 +77,24 @@ right_list whole at test nodes short h =
     ap (λ b. cond b (option_map at (position (λ node. not (test node)) nodes)) (Some whole)) short
     ∙ ap (option_map at) (none_fails test nodes h)
 
-module _ (world : HirDatabase) (body : Body) (infer : InferenceResult) where
+-- the search for a node that isn't in order finds none exactly where all are in order
+pub node_decides : (body : Body) (found : Option BodyNode) (none : Bool) → is_some found ≡ not none → FindsWrongNode body found → Decides none (FindsWrongNode body None)
+node_decides body None true is all = ((λ e. all), (λ h. refl))
+node_decides body None false is all = cc
+node_decides body (Some (node.Expr e)) true is first = cc
+node_decides body (Some (node.Expr e)) false is first = ((λ same. cc), (λ h. absurd (first.2 (h.0 e first.0 first.1))))
+node_decides body (Some (node.Pat p)) true is first = cc
+node_decides body (Some (node.Pat p)) false is first = ((λ same. cc), (λ h. absurd (first.1.2 (h.1 p first.1.0 first.1.1))))
+
+module _ (world : HirDatabase) (body : Body) (infer : InferenceResult) (tree inside : Bool) (is_tree : Decides tree (FindsWrongNode body None)) (is_inside : Decides inside (FindsFirst (IsJumpInside body) body.exprs None)) where
   abbrev none_found : Bool
-  none_found = is_none (wrong_part world body infer) && is_none (tree.wrong_node body) && is_none (wrong_jump body) && is_none (wrong_ellipsis body)
+  none_found = is_none (wrong_part world body infer) && tree && inside && is_none (wrong_ellipsis body)
 
   asked : none_found ≡ true → IsBodyRight world body infer
   asked e =
       let last = both _ (is_none (wrong_ellipsis body)) e in
-      let third = both _ (is_none (wrong_jump body)) last.0 in
-      let second = both (is_none (wrong_part world body infer)) (is_none (tree.wrong_node body)) third.0 in
+      let third = both _ inside last.0 in
+      let second = both (is_none (wrong_part world body infer)) tree third.0 in
       let ids_right = neither (ids.wrong_node body) _ (no_wrong (wrong_part world body infer) second.0) in
       let names_right = neither (wrong_name body) _ ids_right.1 in
       let nodes_right = neither (wrong_in_list part.Exprs part.Expr (is_expr_in_range body) body.exprs) (wrong_in_list part.Pats part.Pat (is_pat_in_range body) body.pats) ids_right.0 in
@@ -107,14 +103,14 @@ module _ (world : HirDatabase) (body : Body) (infer : InferenceResult) where
       let pats = list_right part.Pats part.Pat (is_pat_in_range body) body.pats nodes_right.1 in
       let bindings = list_right part.Bindings part.Binding (is_binding_in_range body) body.bindings rest_right.0 in
       let labels = no_part (is_nameable (length body.labels)) part.Labels rest_right.1 in
-      let ordered = neither (option_map node.Expr (first_failing (is_expr_in_order body) 0 body.exprs)) (option_map node.Pat (first_failing (is_pat_in_order body) 0 body.pats)) (no_wrong (tree.wrong_node body) second.1) in
+      let ordered = is_tree.0 second.1 in
       record {
         lists = λ kind. short kind exprs.0 pats.0 bindings.0 labels;
         nodes = λ kind i. known kind i (there (is_expr_in_range body) body.exprs i (exprs.1 i)) (there (is_pat_in_range body) body.pats i (pats.1 i)) (there (is_binding_in_range body) body.bindings i (bindings.1 i));
         inferred = no_part (are_roots_known body && is_inferred_right world body infer) part.Rest names_right.1;
-        exprs = λ k x at. (expr_decides body k x at).0 (passes_at (is_expr_in_order body) k body.exprs x (not_mapped node.Expr _ ordered.0) at);
-        pats = λ k x at. (pat_decides body k x).0 (passes_at (is_pat_in_order body) k body.pats x (not_mapped node.Pat _ ordered.1) at);
-        jumps = λ k x at. (jump_decides body k x).0 (passes_at (is_jump_inside body) k body.exprs x (no_wrong (wrong_jump body) third.1) at);
+        exprs = ordered.0;
+        pats = ordered.1;
+        jumps = is_inside.0 third.1;
         ellipses = λ k x at. all_at is_ellipsis_inside k body.pats x (all_pass is_ellipsis_inside body.pats (no_wrong (wrong_ellipsis body) last.1)) at;
       }
     where
@@ -145,22 +141,16 @@ module _ (world : HirDatabase) (body : Body) (infer : InferenceResult) where
       (right_list part.Bindings part.Binding (is_binding_in_range body) body.bindings (h.lists Bindings) (λ k x at. at_there (is_binding_in_range body) body.bindings k x at (h.nodes Bindings k)))
       (ap (λ b. unless b part.Labels) (h.lists Labels)))
       (ap (λ b. unless b part.Rest) h.inferred))))
-      (none_of (tree.wrong_node body)
-      (either_none _ _
-      (ap (option_map node.Expr) (none_failing_at (is_expr_in_order body) body.exprs (λ k x at. (expr_decides body k x at).1 (h.exprs k x at))))
-      (ap (option_map node.Pat) (none_failing_at (is_pat_in_order body) body.pats (λ k x at. (pat_decides body k x).1 (h.pats k x at)))))))
-      (none_of (wrong_jump body) (none_failing_at (is_jump_inside body) body.exprs (λ k x at. (jump_decides body k x).1 (h.jumps k x at)))))
+      (is_tree.1 (h.exprs, h.pats)))
+      (is_inside.1 h.jumps))
       (none_of (wrong_ellipsis body) (none_fails is_ellipsis_inside body.pats h.ellipses))
 
--- the searches in a typed body for a part with an id out of range, a node out of order, a jump without its label and a misplaced `..` find nothing
-abbrev finds_nothing : HirDatabase → Body → InferenceResult → Bool
-finds_nothing world body infer = none_found world body infer
-
--- the searches in a typed body decide it
-body_decides : (world : HirDatabase) (body : Body) (infer : InferenceResult) → Decides (finds_nothing world body infer) (IsBodyRight world body infer)
-body_decides world body infer = (asked world body infer, tested world body infer)
-
--- so an answer that says whether they find nothing decides it too
-pub decided_ok : {E : Type 0} (world : HirDatabase) (body : Body) (infer : InferenceResult) (found : Result Bool E) → IfOk found (λ none. none ≡ finds_nothing world body infer) → IfOk found (λ passes. Decides passes (IsBodyRight world body infer))
-decided_ok world body infer (Ok none) same = subst (λ b. Decides b (IsBodyRight world body infer)) (sym same) (body_decides world body infer)
-decided_ok world body infer (Err e) same = tt
+-- the searches in a typed body for a part with an id out of range, a node out of order, a jump without its label and a misplaced `..` decide it
+pub body_decides : (world : HirDatabase) (body : Body) (infer : InferenceResult) (part : Option BodyPart) (tree inside : Bool) (ellipsis : Option ℕ) (all : Bool) → part ≡ wrong_part world body infer → Decides tree (FindsWrongNode body None) → Decides inside (FindsFirst (IsJumpInside body) body.exprs None) → ellipsis ≡ wrong_ellipsis body
+    → all ≡ (is_none part && tree && inside && is_none ellipsis) → Decides all (IsBodyRight world body infer)
+body_decides world body infer part tree inside ellipsis all is_part is_tree is_inside is_ellipsis is =
+    let same : all ≡ none_found world body infer tree inside is_tree is_inside =
+    is
+    ∙ ap (λ p. is_none p && tree && inside && is_none ellipsis) is_part
+    ∙ ap (λ o. is_none (wrong_part world body infer) && tree && inside && is_none o) is_ellipsis in
+    subst (λ b. Decides b (IsBodyRight world body infer)) (sym same) (asked world body infer tree inside is_tree is_inside, tested world body infer tree inside is_tree is_inside)

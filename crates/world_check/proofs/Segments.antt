@@ -1,132 +1,175 @@
--- What a search over all places finds, by what it finds in the parts of the list.
-use Rattle.std.proofs.Common.{◌≡◌, ℕ, zero, suc, ◌+◌, Bool, false, not, Option, Some, None, List, [], ◌∷◌, ◌++◌, refl, sym, ◌∙◌, ap, arith}
-use Rattle.std.specs.List.{find, slice_get}
+-- What is the first of all places that lacks a property, by what is first in the parts of their list.
+use Rattle.std.proofs.Common.{◌≡◌, ℕ, zero, suc, ◌+◌, ◌<◌, Bool, true, Option, Some, None, List, [], ◌∷◌, Decides, IfSome, refl, sym, ◌∙◌, ap, arith, subst}
+use Rattle.std.specs.List.{slice_get}
 use Rattle.std.specs.Option.{option_or}
 use Rattle.world.specs.declared.body.Body.{Body}
 use Rattle.world.specs.declared.database.BodyRow.{BodyRow}
 use Rattle.world.specs.declared.database.HirDatabase.{HirDatabase}
-use Rattle.world_check.specs.Meets.{in_body, if_there}
-use Rattle.world_check.proofs.Walks.{first_found}
+use Rattle.world_check.specs.Meets.{if_there}
+use Rattle.world_check.specs.Rows.{FindsFailing}
 use Rattle.world_check.specs.WorldPlaces.{named_functions, of_adts, of_bodies, of_body, of_code, of_items, of_keyed_rows, of_names, of_nodes, of_table, places}
 use Rattle.world_check.specs.declared.place.NodeKind.{NodeKind}
 use Rattle.world_check.specs.declared.place.NodeKind.TheVariants.{Exprs, Pats, Bindings, Labels}
 use Rattle.world_check.specs.declared.place.Place.{Place}
-use Rattle.world_check.specs.declared.place.Place.TheVariants.{Table, Row, Nodes, Node}
+use Rattle.world_check.specs.declared.place.Place.TheVariants.{Table, Row, Nodes, Node, Function}
+use Rattle.world_check.specs.declared.place.NamedFunction.{NamedFunction}
+use Rattle.world_check.specs.declared.place.NamedFunction.TheVariants.{Drop, Deref, DerefMut, Call, CallMut, CallOnce}
 use Rattle.world_check.specs.declared.place.TableName.{TableName}
 use Rattle.world_check.specs.declared.place.TableName.TheVariants.{Crates, Functions, Consts, Statics, Structs, Unions, Enums, Variants, Traits, Aliases, TypeParams, ConstParams, Closures, Bodies, Layouts, Normals, Impls, ConstImpls}
-use Rattle.world_check.proofs.Searches.{joined, nodes_silent, table_silent}
+use Rattle.world_check.proofs.First.{four, joined, longer, met_here, nothing, passed}
+use Rattle.world_check.proofs.Searches.{nodes_met, table_met}
 
--- four lists
-pub four : (p : Place → Bool) (ws xs ys zs : List Place) (a b c d : Option Place) → find p ws ≡ a → find p xs ≡ b → find p ys ≡ c → find p zs ≡ d → find p (ws ++ (xs ++ (ys ++ zs))) ≡ option_or a (option_or b (option_or c d))
-four p ws xs ys zs a b c d e f g h =
-    joined p ws (xs ++ (ys ++ zs)) a _ e (joined p xs (ys ++ zs) b _ f (joined p ys zs c d g h))
+pub or_both : {A : Type 0} (a b c d : Option A) → a ≡ b → c ≡ d → option_or a c ≡ option_or b d
+or_both a b c d e f = ap (λ o. option_or o c) e ∙ ap (option_or b) f
+
+pub or_none : {A : Type 0} (a : Option A) → option_or a None ≡ a
+or_none None = refl
+or_none (Some x) = refl
 
 -- all places
-pub all_places : (p : Place → Bool) (world : HirDatabase) (items adts names code keyed functions : Option Place) → find p (of_items world) ≡ items → find p (of_adts world) ≡ adts → find p (of_names world) ≡ names → find p (of_code world) ≡ code
-    → find p (of_keyed_rows world) ≡ keyed → find p named_functions ≡ functions → find p (places world) ≡ option_or items (option_or adts (option_or names (option_or code (option_or keyed functions))))
-all_places p world items adts names code keyed functions e f g h i j =
-    joined p (of_items world) _ items _ e
-    (joined p (of_adts world) _ adts _ f
-    (joined p (of_names world) _ names _ g
-    (joined p (of_code world) _ code _ h
-    (joined p (of_keyed_rows world) named_functions keyed functions i j))))
+pub all_places : (P : Place → Type 0) (world : HirDatabase) (items adts names code keyed functions : Option Place) → FindsFailing P (of_items world) items → FindsFailing P (of_adts world) adts → FindsFailing P (of_names world) names → FindsFailing P (of_code world) code
+    → FindsFailing P (of_keyed_rows world) keyed → FindsFailing P named_functions functions → FindsFailing P (places world) (option_or items (option_or adts (option_or names (option_or code (option_or keyed functions)))))
+all_places P world items adts names code keyed functions e f g h i j =
+    joined P (of_items world) _ items (option_or adts (option_or names (option_or code (option_or keyed functions)))) e
+    (joined P (of_adts world) _ adts (option_or names (option_or code (option_or keyed functions))) f
+    (joined P (of_names world) _ names (option_or code (option_or keyed functions)) g
+    (joined P (of_code world) _ code (option_or keyed functions) h
+    (joined P (of_keyed_rows world) named_functions keyed functions i j))))
 
 -- groups of tables
 
-pub items : (p : Place → Bool) (world : HirDatabase) (a b c d : Option Place) → find p (of_table Crates world.crates) ≡ a → find p (of_table Functions world.functions) ≡ b → find p (of_table Consts world.consts) ≡ c → find p (of_table Statics world.statics) ≡ d → find p (of_items world) ≡ option_or a (option_or b (option_or c d))
-items p world a b c d e f g h = four p (of_table Crates world.crates) (of_table Functions world.functions) (of_table Consts world.consts) (of_table Statics world.statics) a b c d e f g h
+pub items : (P : Place → Type 0) (world : HirDatabase) (a b c d : Option Place) → FindsFailing P (of_table Crates world.crates) a → FindsFailing P (of_table Functions world.functions) b → FindsFailing P (of_table Consts world.consts) c → FindsFailing P (of_table Statics world.statics) d → FindsFailing P (of_items world) (option_or a (option_or b (option_or c d)))
+items P world a b c d e f g h = four P (of_table Crates world.crates) (of_table Functions world.functions) (of_table Consts world.consts) (of_table Statics world.statics) a b c d e f g h
 
-pub adts : (p : Place → Bool) (world : HirDatabase) (a b c d : Option Place) → find p (of_table Structs world.structs) ≡ a → find p (of_table Unions world.unions) ≡ b → find p (of_table Enums world.enums) ≡ c → find p (of_table Variants world.variants) ≡ d → find p (of_adts world) ≡ option_or a (option_or b (option_or c d))
-adts p world a b c d e f g h = four p (of_table Structs world.structs) (of_table Unions world.unions) (of_table Enums world.enums) (of_table Variants world.variants) a b c d e f g h
+pub adts : (P : Place → Type 0) (world : HirDatabase) (a b c d : Option Place) → FindsFailing P (of_table Structs world.structs) a → FindsFailing P (of_table Unions world.unions) b → FindsFailing P (of_table Enums world.enums) c → FindsFailing P (of_table Variants world.variants) d → FindsFailing P (of_adts world) (option_or a (option_or b (option_or c d)))
+adts P world a b c d e f g h = four P (of_table Structs world.structs) (of_table Unions world.unions) (of_table Enums world.enums) (of_table Variants world.variants) a b c d e f g h
 
-pub names : (p : Place → Bool) (world : HirDatabase) (a b c d : Option Place) → find p (of_table Traits world.traits) ≡ a → find p (of_table Aliases world.aliases) ≡ b → find p (of_table TypeParams world.type_params) ≡ c → find p (of_table ConstParams world.const_params) ≡ d → find p (of_names world) ≡ option_or a (option_or b (option_or c d))
-names p world a b c d e f g h = four p (of_table Traits world.traits) (of_table Aliases world.aliases) (of_table TypeParams world.type_params) (of_table ConstParams world.const_params) a b c d e f g h
+pub names : (P : Place → Type 0) (world : HirDatabase) (a b c d : Option Place) → FindsFailing P (of_table Traits world.traits) a → FindsFailing P (of_table Aliases world.aliases) b → FindsFailing P (of_table TypeParams world.type_params) c → FindsFailing P (of_table ConstParams world.const_params) d → FindsFailing P (of_names world) (option_or a (option_or b (option_or c d)))
+names P world a b c d e f g h = four P (of_table Traits world.traits) (of_table Aliases world.aliases) (of_table TypeParams world.type_params) (of_table ConstParams world.const_params) a b c d e f g h
 
-pub keyed : (p : Place → Bool) (world : HirDatabase) (a b c d : Option Place) → find p (of_table Layouts world.layouts) ≡ a → find p (of_table Normals world.normals) ≡ b → find p (of_table Impls world.impls) ≡ c → find p (of_table ConstImpls world.const_impls) ≡ d → find p (of_keyed_rows world) ≡ option_or a (option_or b (option_or c d))
-keyed p world a b c d e f g h = four p (of_table Layouts world.layouts) (of_table Normals world.normals) (of_table Impls world.impls) (of_table ConstImpls world.const_impls) a b c d e f g h
+pub keyed : (P : Place → Type 0) (world : HirDatabase) (a b c d : Option Place) → FindsFailing P (of_table Layouts world.layouts) a → FindsFailing P (of_table Normals world.normals) b → FindsFailing P (of_table Impls world.impls) c → FindsFailing P (of_table ConstImpls world.const_impls) d → FindsFailing P (of_keyed_rows world) (option_or a (option_or b (option_or c d)))
+keyed P world a b c d e f g h = four P (of_table Layouts world.layouts) (of_table Normals world.normals) (of_table Impls world.impls) (of_table ConstImpls world.const_impls) a b c d e f g h
 
-pub code : (p : Place → Bool) (world : HirDatabase) (a b : Option Place) → find p (of_table Closures world.closures) ≡ a → find p (Table Bodies ∷ of_bodies 0 world.bodies) ≡ b → find p (of_code world) ≡ option_or a b
-code p world a b e f = joined p (of_table Closures world.closures) (Table Bodies ∷ of_bodies 0 world.bodies) a b e f
+pub code : (P : Place → Type 0) (world : HirDatabase) (a b : Option Place) → FindsFailing P (of_table Closures world.closures) a → FindsFailing P (Table Bodies ∷ of_bodies 0 world.bodies) b → FindsFailing P (of_code world) (option_or a b)
+code P world a b e f = joined P (of_table Closures world.closures) (Table Bodies ∷ of_bodies 0 world.bodies) a b e f
 
--- no row of a group of tables is asked anything
+-- groups of tables whose places all have the property
 
-pub items_silent : (p : Place → Bool) (world : HirDatabase) → ((table : TableName) → p (Table table) ≡ false) → ((i : ℕ) → p (Row Crates i) ≡ false) → ((i : ℕ) → p (Row Functions i) ≡ false) → ((i : ℕ) → p (Row Consts i) ≡ false) → ((i : ℕ) → p (Row Statics i) ≡ false) → find p (of_items world) ≡ None
-items_silent p world table a b c d =
-    items p world None None None None
-    (table_silent p Crates world.crates (table Crates) a)
-    (table_silent p Functions world.functions (table Functions) b)
-    (table_silent p Consts world.consts (table Consts) c)
-    (table_silent p Statics world.statics (table Statics) d)
+pub items_met : (P : Place → Type 0) (world : HirDatabase) → ((table : TableName) → P (Table table)) → ((i : ℕ) → P (Row Crates i)) → ((i : ℕ) → P (Row Functions i)) → ((i : ℕ) → P (Row Consts i)) → ((i : ℕ) → P (Row Statics i)) → FindsFailing P (of_items world) None
+items_met P world table a b c d =
+    items P world None None None None
+    (table_met P Crates world.crates (table Crates) a)
+    (table_met P Functions world.functions (table Functions) b)
+    (table_met P Consts world.consts (table Consts) c)
+    (table_met P Statics world.statics (table Statics) d)
 
-pub adts_silent : (p : Place → Bool) (world : HirDatabase) → ((table : TableName) → p (Table table) ≡ false) → ((i : ℕ) → p (Row Structs i) ≡ false) → ((i : ℕ) → p (Row Unions i) ≡ false) → ((i : ℕ) → p (Row Enums i) ≡ false) → ((i : ℕ) → p (Row Variants i) ≡ false) → find p (of_adts world) ≡ None
-adts_silent p world table a b c d =
-    adts p world None None None None
-    (table_silent p Structs world.structs (table Structs) a)
-    (table_silent p Unions world.unions (table Unions) b)
-    (table_silent p Enums world.enums (table Enums) c)
-    (table_silent p Variants world.variants (table Variants) d)
+pub adts_met : (P : Place → Type 0) (world : HirDatabase) → ((table : TableName) → P (Table table)) → ((i : ℕ) → P (Row Structs i)) → ((i : ℕ) → P (Row Unions i)) → ((i : ℕ) → P (Row Enums i)) → ((i : ℕ) → P (Row Variants i)) → FindsFailing P (of_adts world) None
+adts_met P world table a b c d =
+    adts P world None None None None
+    (table_met P Structs world.structs (table Structs) a)
+    (table_met P Unions world.unions (table Unions) b)
+    (table_met P Enums world.enums (table Enums) c)
+    (table_met P Variants world.variants (table Variants) d)
 
-pub names_silent : (p : Place → Bool) (world : HirDatabase) → ((table : TableName) → p (Table table) ≡ false) → ((i : ℕ) → p (Row Traits i) ≡ false) → ((i : ℕ) → p (Row Aliases i) ≡ false) → ((i : ℕ) → p (Row TypeParams i) ≡ false) → ((i : ℕ) → p (Row ConstParams i) ≡ false) → find p (of_names world) ≡ None
-names_silent p world table a b c d =
-    names p world None None None None
-    (table_silent p Traits world.traits (table Traits) a)
-    (table_silent p Aliases world.aliases (table Aliases) b)
-    (table_silent p TypeParams world.type_params (table TypeParams) c)
-    (table_silent p ConstParams world.const_params (table ConstParams) d)
+pub names_met : (P : Place → Type 0) (world : HirDatabase) → ((table : TableName) → P (Table table)) → ((i : ℕ) → P (Row Traits i)) → ((i : ℕ) → P (Row Aliases i)) → ((i : ℕ) → P (Row TypeParams i)) → ((i : ℕ) → P (Row ConstParams i)) → FindsFailing P (of_names world) None
+names_met P world table a b c d =
+    names P world None None None None
+    (table_met P Traits world.traits (table Traits) a)
+    (table_met P Aliases world.aliases (table Aliases) b)
+    (table_met P TypeParams world.type_params (table TypeParams) c)
+    (table_met P ConstParams world.const_params (table ConstParams) d)
 
-pub keyed_silent : (p : Place → Bool) (world : HirDatabase) → ((table : TableName) → p (Table table) ≡ false) → ((i : ℕ) → p (Row Layouts i) ≡ false) → ((i : ℕ) → p (Row Normals i) ≡ false) → ((i : ℕ) → p (Row Impls i) ≡ false) → ((i : ℕ) → p (Row ConstImpls i) ≡ false) → find p (of_keyed_rows world) ≡ None
-keyed_silent p world table a b c d =
-    keyed p world None None None None
-    (table_silent p Layouts world.layouts (table Layouts) a)
-    (table_silent p Normals world.normals (table Normals) b)
-    (table_silent p Impls world.impls (table Impls) c)
-    (table_silent p ConstImpls world.const_impls (table ConstImpls) d)
+pub keyed_met : (P : Place → Type 0) (world : HirDatabase) → ((table : TableName) → P (Table table)) → ((i : ℕ) → P (Row Layouts i)) → ((i : ℕ) → P (Row Normals i)) → ((i : ℕ) → P (Row Impls i)) → ((i : ℕ) → P (Row ConstImpls i)) → FindsFailing P (of_keyed_rows world) None
+keyed_met P world table a b c d =
+    keyed P world None None None None
+    (table_met P Layouts world.layouts (table Layouts) a)
+    (table_met P Normals world.normals (table Normals) b)
+    (table_met P Impls world.impls (table Impls) c)
+    (table_met P ConstImpls world.const_impls (table ConstImpls) d)
+
+-- two places that both have the property
+pub two_met : (P : Place → Type 0) (x y : Place) → P x → P y → FindsFailing P (x ∷ y ∷ []) None
+two_met P x y e f = met_here P x (y ∷ []) None e (met_here P y [] None f (nothing P))
+
+-- the functions that the world names
+pub functions_met : (P : Place → Type 0) → ((name : NamedFunction) → P (Function name)) → FindsFailing P named_functions None
+functions_met P met =
+    met_here P (Function Drop) (Function Deref ∷ Function DerefMut ∷ Function Call ∷ Function CallMut ∷ Function CallOnce ∷ []) None (met Drop)
+    (met_here P (Function Deref) (Function DerefMut ∷ Function Call ∷ Function CallMut ∷ Function CallOnce ∷ []) None (met Deref)
+    (met_here P (Function DerefMut) (Function Call ∷ Function CallMut ∷ Function CallOnce ∷ []) None (met DerefMut)
+    (met_here P (Function Call) (Function CallMut ∷ Function CallOnce ∷ []) None (met Call)
+    (two_met P (Function CallMut) (Function CallOnce) (met CallMut) (met CallOnce)))))
 
 -- one body
-pub one_body : (p : Place → Bool) (b : ℕ) (body : Body) (exprs pats bindings rest : Option Place) → find p (of_nodes b Exprs body.exprs) ≡ exprs → find p (of_nodes b Pats body.pats) ≡ pats → find p (of_nodes b Bindings body.bindings) ≡ bindings → find p (Nodes b Labels ∷ Row Bodies b ∷ []) ≡ rest
-    → find p (of_body b body) ≡ option_or exprs (option_or pats (option_or bindings rest))
-one_body p b body exprs pats bindings rest e f g h =
-    four p (of_nodes b Exprs body.exprs) (of_nodes b Pats body.pats) (of_nodes b Bindings body.bindings) (Nodes b Labels ∷ Row Bodies b ∷ []) exprs pats bindings rest e f g h
+pub one_body : (P : Place → Type 0) (b : ℕ) (body : Body) (exprs pats bindings rest : Option Place) → FindsFailing P (of_nodes b Exprs body.exprs) exprs → FindsFailing P (of_nodes b Pats body.pats) pats → FindsFailing P (of_nodes b Bindings body.bindings) bindings → FindsFailing P (Nodes b Labels ∷ Row Bodies b ∷ []) rest
+    → FindsFailing P (of_body b body) (option_or exprs (option_or pats (option_or bindings rest)))
+one_body P b body exprs pats bindings rest e f g h =
+    four P (of_nodes b Exprs body.exprs) (of_nodes b Pats body.pats) (of_nodes b Bindings body.bindings) (Nodes b Labels ∷ Row Bodies b ∷ []) exprs pats bindings rest e f g h
 
-bodies_from : (p : Place → Bool) (test : ℕ → BodyRow → Option Place) (b : ℕ) (rows : List BodyRow) → ((k : ℕ) (row : BodyRow) → slice_get rows k ≡ Some row → find p (of_body (b + k) row.body) ≡ test (b + k) row) → find p (of_bodies b rows) ≡ first_found test b rows
-bodies_from p test b [] fits = refl
-bodies_from p test b (row ∷ rows) fits =
-    joined p (of_body b row.body) (of_bodies (b + 1) rows) (test b row) (first_found test (b + 1) rows) here (bodies_from p test (b + 1) rows later)
+-- all bodies, with numbers from `b` on: none has such a place
+pub bodies_none : (P : Place → Type 0) (b : ℕ) (rows : List BodyRow) → ((k : ℕ) (row : BodyRow) → slice_get rows k ≡ Some row → FindsFailing P (of_body (b + k) row.body) None) → FindsFailing P (of_bodies b rows) None
+bodies_none P b [] none = nothing P
+bodies_none P b (row ∷ rows) none =
+    joined P (of_body b row.body) (of_bodies (b + 1) rows) None None here (bodies_none P (b + 1) rows later)
   where
-    here : find p (of_body b row.body) ≡ test b row
+    here : FindsFailing P (of_body b row.body) None
     here =
         let start : b + zero ≡ b = omega arith in
-        ap (λ j. find p (of_body j row.body)) (sym start) ∙ fits zero row refl ∙ ap (λ j. test j row) start
+        subst (λ j. FindsFailing P (of_body j row.body) None) start (none zero row refl)
 
-    later : (k : ℕ) (next : BodyRow) → slice_get rows k ≡ Some next → find p (of_body (b + 1 + k) next.body) ≡ test (b + 1 + k) next
+    later : (k : ℕ) (next : BodyRow) → slice_get rows k ≡ Some next → FindsFailing P (of_body (b + 1 + k) next.body) None
     later k next there =
         let step : b + suc k ≡ b + 1 + k = omega arith in
-        ap (λ j. find p (of_body j next.body)) (sym step) ∙ fits (suc k) next there ∙ ap (λ j. test j next) step
+        subst (λ j. FindsFailing P (of_body j next.body) None) step (none (suc k) next there)
 
--- all bodies, by what is found in each
-pub each_body : (p : Place → Bool) (test : ℕ → BodyRow → Option Place) (rows : List BodyRow) → ((k : ℕ) (row : BodyRow) → slice_get rows k ≡ Some row → find p (of_body k row.body) ≡ test k row) → find p (of_bodies 0 rows) ≡ first_found test 0 rows
-each_body p test rows fits = bodies_from p test 0 rows from
+-- each place of all bodies has the property
+pub bodies_met : (P : Place → Type 0) (rows : List BodyRow) → ((b : ℕ) (kind : NodeKind) → P (Nodes b kind)) → ((b : ℕ) (kind : NodeKind) (i : ℕ) → P (Node b kind i)) → ((b : ℕ) → P (Row Bodies b)) → FindsFailing P (of_bodies 0 rows) None
+bodies_met P rows list node rest = bodies_none P 0 rows (λ k row there. each (0 + k) row.body)
   where
-    from : (k : ℕ) (row : BodyRow) → slice_get rows k ≡ Some row → find p (of_body (0 + k) row.body) ≡ test (0 + k) row
-    from k row there =
-        let start : 0 + k ≡ k = omega arith in
-        ap (λ j. find p (of_body j row.body)) start ∙ fits k row there ∙ ap (λ j. test j row) (sym start)
+    each : (b : ℕ) (body : Body) → FindsFailing P (of_body b body) None
+    each b body =
+        one_body P b body None None None None
+        (nodes_met P b Exprs body.exprs (list b Exprs) (node b Exprs))
+        (nodes_met P b Pats body.pats (list b Pats) (node b Pats))
+        (nodes_met P b Bindings body.bindings (list b Bindings) (node b Bindings))
+        (two_met P (Nodes b Labels) (Row Bodies b) (list b Labels) (rest b))
 
-pub bodies_silent : (p : Place → Bool) (b : ℕ) (rows : List BodyRow) → ((b : ℕ) (kind : NodeKind) → p (Nodes b kind) ≡ false) → ((b : ℕ) (kind : NodeKind) (i : ℕ) → p (Node b kind i) ≡ false) → ((b : ℕ) → find p (Nodes b Labels ∷ Row Bodies b ∷ []) ≡ None) → find p (of_bodies b rows) ≡ None
-bodies_silent p b [] whole silent rest = refl
-bodies_silent p b (row ∷ rows) whole silent rest =
-    joined p (of_body b row.body) (of_bodies (b + 1) rows) None None
-    (one_body p b row.body None None None None
-    (nodes_silent p b Exprs row.body.exprs (whole b Exprs) (silent b Exprs))
-    (nodes_silent p b Pats row.body.pats (whole b Pats) (silent b Pats))
-    (nodes_silent p b Bindings row.body.bindings (whole b Bindings) (silent b Bindings))
-    (rest b))
-    (bodies_silent p (b + 1) rows whole silent rest)
+-- or one has, and no body before it
+pub bodies_some : (P : Place → Type 0) (b i : ℕ) (rows : List BodyRow) (row : BodyRow) (place : Place) → slice_get rows i ≡ Some row → ((k : ℕ) (other : BodyRow) → k < i → slice_get rows k ≡ Some other → FindsFailing P (of_body (b + k) other.body) None) → FindsFailing P (of_body (b + i) row.body) (Some place) → FindsFailing P (of_bodies b rows) (Some place)
+bodies_some P b i [] row place at none found = cc
+bodies_some P b zero (first ∷ rows) row place at none found =
+    let same : row ≡ first = cc in
+    let start : b + zero ≡ b = omega arith in
+    let here : FindsFailing P (of_body b row.body) (Some place) = subst (λ j. FindsFailing P (of_body j row.body) (Some place)) start found in
+    longer P (of_body b first.body) (of_bodies (b + 1) rows) place (subst (λ (r : BodyRow). FindsFailing P (of_body b r.body) (Some place)) same here)
+bodies_some P b (suc i) (first ∷ rows) row place at none found =
+    passed P (of_body b first.body) (of_bodies (b + 1) rows) (Some place) here (bodies_some P (b + 1) i rows row place at later (subst (λ j. FindsFailing P (of_body j row.body) (Some place)) step found))
+  where
+    step : b + suc i ≡ b + 1 + i
+    step = omega arith
 
--- a test in a body is that of its row
-pub body_asked : (world : HirDatabase) (b : ℕ) (row : BodyRow) (test : Body → Bool) → slice_get world.bodies b ≡ Some row → not (in_body world b test) ≡ not (test row.body)
-body_asked world b row test there = ap (λ found. not (if_there (λ (r : BodyRow). test r.body) found)) there
+    here : FindsFailing P (of_body b first.body) None
+    here =
+        let start : b + zero ≡ b = omega arith in
+        subst (λ j. FindsFailing P (of_body j first.body) None) start (none zero first (omega arith) refl)
 
--- a test of an element is that of the one which is there
-pub there_asked : {X : Type 0} (test : X → Bool) (found : Option X) (x : X) → found ≡ Some x → not (if_there test found) ≡ not (test x)
-there_asked test found x there = ap (λ o. not (if_there test o)) there
+    later : (k : ℕ) (other : BodyRow) → k < i → slice_get rows k ≡ Some other → FindsFailing P (of_body (b + 1 + k) other.body) None
+    later k other h there =
+        let next : b + suc k ≡ b + 1 + k = omega arith in
+        subst (λ j. FindsFailing P (of_body j other.body) None) next (none (suc k) other (omega arith) there)
+
+-- What the tests of single rows and nodes decide.
+
+-- an optional element passes a test where the one that is there does
+pub asked : {X : Type 0} (test : X → Bool) (found : Option X) (x : X) → found ≡ Some x → Decides (test x) (if_there test found ≡ true)
+asked test found x there = ((λ e. ap (if_there test) there ∙ e), (λ e. sym (ap (if_there test) there) ∙ e))
+
+-- a body's nodes are tested in the body that is there
+pub asked_in : {X : Type 0} (test : Body → X → Bool) (nodes : Body → Option X) (found : Option BodyRow) (row : BodyRow) (x : X) → found ≡ Some row → nodes row.body ≡ Some x → Decides (test row.body x) (if_there (λ (r : BodyRow). if_there (test r.body) (nodes r.body)) found ≡ true)
+asked_in test nodes found row x there at =
+    let whole = ap (if_there (λ (r : BodyRow). if_there (test r.body) (nodes r.body))) there ∙ ap (if_there (test row.body)) at in
+    ((λ e. whole ∙ e), (λ e. sym whole ∙ e))
+
+-- a fact of the element that is there is that of an optional one
+pub to_there : {X : Type 0} (fact : X → Type 0) (found : Option X) (x : X) → found ≡ Some x → fact x → IfSome found fact
+to_there fact found x there has = subst (λ o. IfSome o fact) (sym there) has

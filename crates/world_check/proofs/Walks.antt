@@ -1,7 +1,5 @@
--- How the code looks for the first place that doesn't meet a row of the check: table by table, in the order of the world's fields.
--- `wrong_NOUN` is the first place that fails a test, and `wrong_NOUN_in` the first in one body.
-use Rattle.std.proofs.Common.{◌≡◌, ℕ, suc, ◌+◌, ◌<◌, ◌≤◌, ◌&&◌, Bool, not, Option, Some, None, List, [], ◌∷◌, length, get_or, drop, sym, ◌∙◌, ap, add-one, drop-cons}
-use Rattle.std.proofs.lemmas.List.{drop_all}
+-- What the code finds in tables and in one body: the first place that fails a test, in the order of the world's fields.
+use Rattle.std.proofs.Common.{◌≡◌, ℕ, ◌&&◌, Bool, not, Option, Some, None, List, length, ◌∙◌, ap}
 use Rattle.std.specs.Prelude.{if◌then◌else◌}
 use Rattle.std.specs.List.{position}
 use Rattle.std.specs.Option.{option_map, option_or}
@@ -15,24 +13,21 @@ use Rattle.world.specs.declared.impls.ConstImplRow.{ConstImplRow}
 use Rattle.world.specs.declared.impls.ImplRow.{ImplRow}
 use Rattle.world.specs.declared.layout.Layout.{Layout}
 use Rattle.check_names.specs.Known.{is_nameable}
-use Rattle.check_items.specs.Agree.{has_all_params, is_closure_row, wrong_variant}
 use Rattle.check_items.specs.Closed.{is_const_impl_closed, is_impl_closed, is_normal_closed}
 use Rattle.check_items.specs.Names.{is_const_impl_named, is_const_named, is_const_param_named, is_enum_named, is_function_known, is_function_named, is_impl_named, is_layout_named, is_normal_named, is_static_named, is_struct_named, is_variant_named}
 use Rattle.check_ids.specs.Parts.{wrong_part}
 use Rattle.check_trees.specs.Ellipsis.{wrong_ellipsis}
-use Rattle.check_trees.specs.Jumps.{wrong_jump}
 use Rattle.world.specs.Failing.{first_failing}
-use Rattle.check_trees.specs.Tree.{wrong_node}
-use Rattle.check_layouts.proofs.Decided.{is_layout_right, is_tag_right}
+use Rattle.check_layouts.proofs.Decided.{is_tag_right}
 use Rattle.world_check.specs.Meets.{has_new_alias, has_new_const, has_new_function, has_new_type}
-use Rattle.world_check.specs.WorldPlaces.{node_place, part_place}
+use Rattle.world_check.specs.WorldPlaces.{part_place}
 use Rattle.world_check.specs.declared.place.NamedFunction.{NamedFunction}
 use Rattle.world_check.specs.declared.place.NamedFunction.TheVariants.{Drop, Deref, DerefMut, Call, CallMut, CallOnce}
-use Rattle.world_check.specs.declared.place.NodeKind.TheVariants.{Exprs, Pats}
+use Rattle.world_check.specs.declared.place.NodeKind.TheVariants.{Pats}
 use Rattle.world_check.specs.declared.place.Place.{Place}
 use Rattle.world_check.specs.declared.place.Place.TheVariants.{Table, Row, Node, Function}
 use Rattle.world_check.specs.declared.place.TableName.{TableName}
-use Rattle.world_check.specs.declared.place.TableName.TheVariants.{Crates, Functions, Consts, Statics, Structs, Unions, Enums, Variants, Traits, Aliases, TypeParams, ConstParams, Closures, Layouts, Normals, Impls, ConstImpls}
+use Rattle.world_check.specs.declared.place.TableName.TheVariants.{Crates, Functions, Consts, Statics, Structs, Unions, Enums, Variants, Traits, Aliases, TypeParams, ConstParams, Layouts, Normals, Impls, ConstImpls}
 
 -- the index of the first element that fails a test
 abbrev pub first_wrong : {X : Type 0} → (X → Bool) → List X → Option ℕ
@@ -54,6 +49,10 @@ wrong_row_at table test rows = option_map (Row table) (first_failing test 0 rows
 abbrev pub in_table : TableName → ℕ → Option Place → Option Place
 in_table table entries found = if is_nameable entries then found else Some (Table table)
 
+-- the same by another count of the rows
+pub in_table_is : (table : TableName) (entries n : ℕ) (found place : Option Place) → place ≡ in_table table entries found → entries ≡ n → place ≡ in_table table n found
+in_table_is table entries n found place is same = is ∙ ap (λ m. in_table table m found) same
+
 -- the table itself if it has too many rows for ids of 32 bits
 abbrev pub wrong_length : TableName → ℕ → Option Place
 wrong_length table entries = in_table table entries None
@@ -61,11 +60,6 @@ wrong_length table entries = in_table table entries None
 -- the table itself if it has too many rows for ids of 32 bits, else its first row that fails a test
 abbrev pub wrong_table : {X : Type 0} → TableName → (X → Bool) → List X → Option Place
 wrong_table table test rows = in_table table (length rows) (wrong_row table test rows)
-
--- the first place that a search finds, over rows with indices from `i` on
-abbrev pub first_found : {X : Type 0} → (ℕ → X → Option Place) → ℕ → List X → Option Place
-first_found test i [] = None
-first_found test i (x ∷ xs) = option_or (test i x) (first_found test (i + 1) xs)
 
 -- Ids are in range, lists are short enough for ids of 32 bits, and keys are distinct.
 
@@ -116,20 +110,6 @@ wrong_call world =
     (option_or (wrong_lang_function CallMut world world.call_mut_fn)
     (wrong_lang_function CallOnce world world.call_once_fn))
 
--- Bodies are trees, and jumps name enclosing labels.
-
-abbrev pub wrong_node_in : ℕ → BodyRow → Option Place
-wrong_node_in b row = option_map (node_place b) (wrong_node row.body)
-
-abbrev pub wrong_tree : HirDatabase → Option Place
-wrong_tree world = first_found wrong_node_in 0 world.bodies
-
-abbrev pub wrong_jump_in : ℕ → BodyRow → Option Place
-wrong_jump_in b row = option_map (Node b Exprs) (wrong_jump row.body)
-
-abbrev pub wrong_label : HirDatabase → Option Place
-wrong_label world = first_found wrong_jump_in 0 world.bodies
-
 -- Normalized types and resolved impl items have no alias and no generic parameter in them.
 
 abbrev pub wrong_resolution : HirDatabase → Option Place
@@ -138,44 +118,12 @@ wrong_resolution world =
     (option_or (wrong_row Impls is_impl_closed world.impls)
     (wrong_row ConstImpls is_const_impl_closed world.const_impls))
 
--- Layouts follow the rules of all targets, and tags fit their enums.
-
-abbrev pub wrong_layout : HirDatabase → Option Place
-wrong_layout world = wrong_row_at Layouts (is_layout_right world) world.layouts
+-- Tags fit their enums.
 
 abbrev pub wrong_tag : HirDatabase → Option Place
 wrong_tag world = wrong_row Layouts (is_tag_right world) world.layouts
 
--- Functions agree with bodies, variants with enums, closures with expressions, and each `..` stands within its pattern.
+-- Each `..` stands within its pattern.
 
 abbrev pub wrong_ellipsis_in : ℕ → BodyRow → Option Place
 wrong_ellipsis_in b row = option_map (Node b Pats) (wrong_ellipsis row.body)
-
-abbrev pub wrong_agreement : HirDatabase → Option Place
-wrong_agreement world =
-    option_or (wrong_row Functions (has_all_params world) world.functions)
-    (option_or (option_map (Row Variants) (wrong_variant world))
-    (option_or (wrong_row Closures (is_closure_row world) world.closures)
-    (first_found wrong_ellipsis_in 0 world.bodies)))
-
--- The loop that searches rows for the first wrong one.
-
-unfold_found : {X : Type 0} (f : ℕ → X → Option Place) (xs : List X) (i : ℕ) (x d : X) → i < length xs → x ≡ get_or xs i d → first_found f i (drop i xs) ≡ option_or (f i x) (first_found f (i + 1) (drop (i + 1) xs))
-unfold_found f xs i x d h e =
-    ap (λ ys. first_found f i ys) (drop-cons xs i d h)
-    ∙ ap (λ y. option_or (f i y) (first_found f (i + 1) (drop (suc i) xs))) (sym e)
-    ∙ ap (λ j. option_or (f i x) (first_found f (i + 1) (drop j xs))) (sym (add-one i))
-
--- nothing is found in a row: the loop continues with the next
-pub found_next : {X : Type 0} (f : ℕ → X → Option Place) (xs : List X) (i : ℕ) (x d : X) (r : Option Place) → i < length xs → x ≡ get_or xs i d → f i x ≡ None → first_found f i (drop i xs) ≡ r → first_found f (i + 1) (drop (i + 1) xs) ≡ r
-found_next f xs i x d r h e none whole =
-    ap (λ o. option_or o (first_found f (i + 1) (drop (i + 1) xs))) (sym none) ∙ sym (unfold_found f xs i x d h e) ∙ whole
-
--- something is found in a row: it is the first
-pub found_here : {X : Type 0} (f : ℕ → X → Option Place) (xs : List X) (i : ℕ) (x d : X) (r : Option Place) (p : Place) → i < length xs → x ≡ get_or xs i d → f i x ≡ Some p → first_found f i (drop i xs) ≡ r → Some p ≡ r
-found_here f xs i x d r p h e some whole =
-    ap (λ o. option_or o (first_found f (i + 1) (drop (i + 1) xs))) (sym some) ∙ sym (unfold_found f xs i x d h e) ∙ whole
-
--- the loop reaches the end: nothing is found
-pub found_end : {X : Type 0} (f : ℕ → X → Option Place) (xs : List X) (i : ℕ) (r : Option Place) → length xs ≤ i → first_found f i (drop i xs) ≡ r → None ≡ r
-found_end f xs i r h whole = sym (ap (λ ys. first_found f i ys) (drop_all i xs h)) ∙ whole

@@ -1,8 +1,6 @@
 pub mod Places
 pub mod WorldPlaces
-pub mod Trees
 pub mod Meets
-pub mod Tests
 pub mod Valid
 pub mod Rows
 pub mod Laid

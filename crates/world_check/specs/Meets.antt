@@ -20,8 +20,9 @@ use Rattle.check_ids.specs.Inferred.{is_inferred_right}
 use Rattle.check_ids.specs.Nodes.{is_binding_in_range, is_expr_in_range, is_pat_in_range}
 use Rattle.check_ids.specs.Parts.{are_roots_known}
 use Rattle.check_trees.specs.Ellipsis.{is_ellipsis_inside}
+use Rattle.check_trees.specs.Jumps.{IsJumpInside}
+use Rattle.check_trees.specs.Tree.{IsExprInOrder, IsPatInOrder}
 use Rattle.check_layouts.specs.Laid.{HasRightTag, IsRowLaidOut}
-use Rattle.world_check.specs.Trees.{IsExprInOrder, IsJumpInside, IsPatInOrder}
 use Rattle.world_check.specs.declared.fault.CheckRow.{CheckRow}
 use Rattle.world_check.specs.declared.fault.CheckRow.TheVariants.{C1, C2, C3, C4, C5, C6, C7}
 use Rattle.world_check.specs.declared.place.NamedFunction.{NamedFunction}
@@ -46,7 +47,8 @@ if_at test xs i = if_there (test i) (slice_get xs i)
 abbrev pub none_before : {X : Type 0} → (X → Bool) → List X → ℕ → Bool
 none_before test rows i = not (list_any test (take i rows))
 
--- Ids are in range, lists whose places have ids are short enough, keys are distinct, and `char` literals are Unicode scalar values.
+-- Ids are in range, those of fields too; lists whose places an id or a number of 32 bits names are short enough; each node has one type; keys are distinct; and
+-- `char` literals are Unicode scalar values.
 
 -- a table whose rows are named by ids has fewer than 2^32 rows
 abbrev pub is_table_nameable : HirDatabase → TableName → Bool
@@ -139,8 +141,8 @@ has_known_ids world (Function name) = is_function_known world (named_function wo
 abbrev pub InBody : HirDatabase → ℕ → (Body → Type 0) → Type 0
 InBody world b fact = IfSome (slice_get world.bodies b) (λ (row : BodyRow). fact row.body)
 
--- Bodies are trees: children have lower ids than their parents of the same kind, so have expressions inside a pattern than the one that holds the pattern, each
--- node but the root and the parameters has at most one parent, and no path of more than 400 steps leads down.
+-- Bodies are trees: a child has a lower id than its parent where both are expressions or both are patterns, an expression inside a pattern has a lower id than the
+-- expression that holds the pattern, each node but the root and the parameters occurs at most once as a child, and no path of more than 400 steps leads down.
 abbrev pub IsInOrder : HirDatabase → Place → Type 0
 IsInOrder world (Node b Exprs e) = InBody world b (λ body. IfSome (slice_get body.exprs e) (IsExprInOrder body e))
 IsInOrder world (Node b Pats p) = InBody world b (λ body. IfSome (slice_get body.pats p) (IsPatInOrder body p))
@@ -151,14 +153,14 @@ abbrev pub HasEnclosingLabel : HirDatabase → Place → Type 0
 HasEnclosingLabel world (Node b Exprs e) = InBody world b (λ body. IfSome (slice_get body.exprs e) (IsJumpInside body e))
 HasEnclosingLabel world _ = Unit {0}
 
--- Normalized types and resolved impl items have no alias and no generic parameter in them.
+-- Normalized types, and the arguments of resolved impl items, have no alias and no generic parameter in them.
 abbrev pub is_resolved : HirDatabase → Place → Bool
 is_resolved world (Row Normals i) = if_there is_normal_closed (slice_get world.normals i)
 is_resolved world (Row Impls i) = if_there is_impl_closed (slice_get world.impls i)
 is_resolved world (Row ConstImpls i) = if_there is_const_impl_closed (slice_get world.const_impls i)
 is_resolved world _ = true
 
--- Layouts follow the rules of all targets. The types of parts have theirs in the rows above.
+-- Layouts follow the rules of all 64-bit targets. The types of parts have theirs in the rows above.
 abbrev pub HasRightLayout : HirDatabase → Place → Type 0
 HasRightLayout world (Row Layouts i) = IsRowLaidOut world i
 HasRightLayout world _ = Unit {0}
@@ -168,7 +170,7 @@ abbrev pub HasFittingTag : HirDatabase → Place → Type 0
 HasFittingTag world (Row Layouts i) = IfSome (slice_get world.layouts i) (λ (row : Ty × Layout). HasRightTag world row.0 row.1)
 HasFittingTag world _ = Unit {0}
 
--- Functions agree with their bodies, variants with the lists of enums, closures with their expressions, and each `..` stands within its pattern.
+-- Functions agree with their bodies, variants with the lists of enums, closures with their expressions, and each `..` stands among the parts of its pattern or behind the last.
 abbrev pub Agrees : HirDatabase → Place → Type 0
 Agrees world (Row Functions i) = if_there (has_all_params world) (slice_get world.functions i) ≡ true
 Agrees world (Row Variants i) = IfSome (slice_get world.variants i) (IsListedRight world i)

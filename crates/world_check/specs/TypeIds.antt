@@ -12,7 +12,7 @@ use Rattle.world.specs.declared.layout.Layout.{Layout}
 use Rattle.check_names.specs.Known.{is_named}
 use Rattle.check_layouts.specs.Laid.{Has}
 
--- every id that a type mentions, at any depth, is in range of its table, and every list that it mentions is short enough for indices of 32 bits
+-- every id that a type mentions, at any depth, is in range of its table, and every list that it mentions has fewer than 2^32 entries
 abbrev pub HasKnownIds : HirDatabase → Ty → Type 0
 HasKnownIds world ty = (mention : Mention) → Has (ty_mentions ty) mention → is_named world mention ≡ true
 

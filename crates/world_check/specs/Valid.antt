@@ -1,4 +1,4 @@
--- Definitions of a checked world that can be evaluated, and typed bodies that pass the tests of a single body.
+-- Definitions of a checked world that can be evaluated, and typed bodies that are right by themselves.
 use Rattle.std.specs.Prelude.{◌≡◌, ℕ, ◌==◌, ◌&&◌, Bool, true, false, List, [], ◌∷◌, length, Option, Some, None, slice_get}
 use Rattle.types.specs.declared.ids.DefWithBodyId.{DefWithBodyId}
 use Rattle.types.specs.declared.ids.DefWithBodyId.TheVariants as def
@@ -19,8 +19,9 @@ use Rattle.check_names.specs.Known.{are_args_settled}
 use Rattle.check_ids.specs.Inferred.{is_inferred_right}
 use Rattle.check_ids.specs.Parts.{are_roots_known}
 use Rattle.check_trees.specs.Ellipsis.{is_ellipsis_inside}
+use Rattle.check_trees.specs.Jumps.{IsJumpInside}
+use Rattle.check_trees.specs.Tree.{IsExprInOrder, IsPatInOrder}
 use Rattle.world_check.specs.Meets.{is_list_nameable, is_node_known}
-use Rattle.world_check.specs.Trees.{IsExprInOrder, IsJumpInside, IsPatInOrder}
 use Rattle.world_check.specs.declared.place.NodeKind.{NodeKind}
 
 -- a type for a type parameter, or a constant for a const parameter
@@ -63,8 +64,8 @@ fits world (def.VariantId id) args = false
 abbrev pub is_valid : HirDatabase → DefWithBodyId → GenericArgs → Bool
 is_valid world def args = fits world def args && are_args_settled args
 
--- A typed body is right by itself: its lists are short enough and all ids in it are in range, each node has a type, its nodes are in order, its jumps name
--- enclosing labels, and each `..` stands within its pattern.
+-- A typed body is right by itself: its lists are short enough and all ids in it are in range, its `char` literals are Unicode scalar values, each node has a type,
+-- its nodes are in order, its jumps name enclosing labels, and each `..` stands among the parts of its pattern or behind the last.
 pub record IsBodyRight (world : HirDatabase) (body : Body) (infer : InferenceResult) : Type 0 where
   pub lists : (kind : NodeKind) → is_list_nameable kind body ≡ true
   pub nodes : (kind : NodeKind) (i : ℕ) → is_node_known kind i body ≡ true

@@ -5,7 +5,7 @@ ghost use Rattle.std.specs.List.{position};
 ghost use Rattle.check_items.specs.Agree.{has_all_params, is_closure_row};
 ghost use Rattle.check_items.specs.Closed.{is_const_impl_closed, is_impl_closed, is_normal_closed};
 ghost use Rattle.check_layouts.proofs.Decided.{tag_answer};
-ghost use Rattle.world_check.specs.Rows.{failing_place};
+ghost use Rattle.world_check.specs.Rows.{FindsUnmet};
 
 use crate::tables::{numbered_place, row_place};
 use crate::trees::wrong_pattern;
@@ -44,7 +44,7 @@ fn wrong_const_impl_among(rows: &[ConstImplRow]) -> Option<usize>
 
 /// The first row of normalized types and resolved impl items with an alias or a generic parameter in it.
 pub(crate) fn wrong_resolution(db: &HirDatabase) -> Option<Place>
-    ensures { result ≡ failing_place CheckRow.C4 db.now }
+    ensures { FindsUnmet CheckRow.C4 db.now result }
 {
     let consts = wrong_const_impl_among(db.const_impls.as_slice());
     let functions = wrong_impl_among(db.impls.as_slice());
@@ -56,7 +56,7 @@ pub(crate) fn wrong_resolution(db: &HirDatabase) -> Option<Place>
 
 /// The place of the first layout that breaks a rule of all targets.
 pub(crate) fn wrong_layout(alloc: Global, db: &HirDatabase) -> Result<Option<Place>, NoMemory>
-    ensures { IfOk result (λ found. found ≡ failing_place CheckRow.C5 db.now) }
+    ensures { IfOk result (λ found. FindsUnmet CheckRow.C5 db.now found) }
 {
     let found = first_wrong_layout(alloc, db)?;
     Ok(row_place(TableName::Layouts, found))
@@ -78,7 +78,7 @@ fn wrong_tag_among(db: &HirDatabase, rows: &[(Ty, Layout)]) -> Option<usize>
 
 /// The place of the first layout whose tag doesn't fit its enum.
 pub(crate) fn wrong_tag(db: &HirDatabase) -> Option<Place>
-    ensures { result ≡ failing_place CheckRow.C6 db.now }
+    ensures { FindsUnmet CheckRow.C6 db.now result }
 {
     row_place(
         TableName::Layouts,
@@ -102,9 +102,8 @@ fn wrong_closure_expr_among(db: &HirDatabase, rows: &[ClosureRow]) -> Option<usi
 
 /// The first row that doesn't agree with its body, its enum or its expression, or the first pattern whose
 /// `..` stands past the end of its subpatterns.
-#[tactic(auto, using(crate::proofs::FoundPlaces::agreement_found))]
 pub(crate) fn wrong_agreement(alloc: Global, db: &HirDatabase) -> Result<Option<Place>, NoMemory>
-    ensures { IfOk result (λ found. found ≡ failing_place CheckRow.C7 db.now) }
+    ensures { IfOk result (λ found. FindsUnmet CheckRow.C7 db.now found) }
 {
     let unlisted = wrong_variant(alloc, db)?;
     let closure = wrong_closure_expr_among(db, db.closures.as_slice());

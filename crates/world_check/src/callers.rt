@@ -9,7 +9,7 @@ ghost use Rattle.world.specs.Lookups.{fields_of, layout_of};
 ghost use Rattle.world.specs.declared.items.FieldRow.{FieldRow};
 ghost use Rattle.world.specs.declared.layout.Layout.{Layout};
 ghost use Rattle.world_check.specs.Laid.{AreLaidOut, HasLayout, field_type};
-ghost use Rattle.world_check.specs.Rows.{IsFirstFault};
+ghost use Rattle.world_check.specs.Rows.{IsRefusal};
 ghost use Rattle.world_check.specs.TypeIds.{AreIdsKnown};
 
 use crate::{CheckFault, CheckedWorld, check};
@@ -31,9 +31,9 @@ fn passes(alloc: Global, db: &HirDatabase) -> bool
     check(alloc, db).is_ok()
 }
 
-/// Why the check refuses a world, if it does: the first row that fails, and the first place that doesn't meet it.
+/// Why the check refuses a world, if it does: the first row that some place doesn't meet, and the first such place.
 fn refusal(alloc: Global, db: &HirDatabase) -> Option<CheckFault>
-    ensures { IfSome result (IsFirstFault db.now) }
+    ensures { IfSome result (IsRefusal db.now) }
 {
     check(alloc, db).err()
 }

@@ -34,14 +34,14 @@ impl Model for CheckedWorld {
 impl CheckedWorld {
     ghost use Rattle.std.specs.Prelude.{◌≡◌, IfOk, IfErr, OnOk};
     ghost use Rattle.world.specs.Checked.{IsChecked};
-    ghost use Rattle.world_check.specs.Rows.{first_failure, Holds, IsRefusal};
+    ghost use Rattle.world_check.specs.Rows.{Holds, IsRefusal};
     ghost use Rattle.world_check.specs.Valid.{is_valid};
     ghost use Rattle.check_names.specs.Known.{are_args_known, is_def_known};
 
     /// Checks a world, as `check` does. If the check fails, the database is returned with the fault.
     pub fn new(alloc: Global, db: HirDatabase) -> Result<CheckedWorld, (HirDatabase, CheckFault)>
         ensures same { IfOk result (λ checked. checked ≡ db) }
-        ensures passes { OnOk result (first_failure db ≡ None) }
+        ensures holds { OnOk result (Holds db) }
         ensures handed_back { IfErr result (λ refusal. refusal.0 ≡ db) }
         ensures refused { IfErr result (λ refusal. IsRefusal db refusal.1) }
     {
@@ -55,7 +55,6 @@ impl CheckedWorld {
     pub fn db(&self) -> &HirDatabase
         ensures same { result.now ≡ self.now }
         ensures checked { IsChecked result.now }
-        ensures passes { first_failure result.now ≡ None }
         ensures holds { Holds result.now }
     {
         &self.db

@@ -2,7 +2,7 @@
 
 use world::{NoMemory, Text};
 
-/// A row of the check's table. A fault names the first that fails.
+/// A row of the check's table. A fault names the first that some place doesn't meet.
 #[derive(Clone, Copy, PartialEq, Eq, PartialOrd, Ord, Hash, Debug)]
 pub enum CheckRow {
     /// Ids are in range, each node has one type, lists are short enough for ids of 32 bits, keys of tables
@@ -25,7 +25,7 @@ pub enum CheckRow {
     C7,
 }
 
-/// The first row that fails, and the first place where it does.
+/// The first row that some place doesn't meet, and the first such place.
 #[derive(PartialEq, Eq, PartialOrd, Ord, Hash, Debug, Drop)]
 pub struct InvalidWorld {
     pub row: CheckRow,

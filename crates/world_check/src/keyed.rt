@@ -2,8 +2,8 @@
 ghost use Rattle.std.specs.Prelude.{◌≡◌, Some, Decides, slice_get};
 ghost use Rattle.std.specs.Option.{option_map};
 ghost use Rattle.world.specs.Failing.{first_failing};
-ghost use Rattle.world_check.specs.Meets.{has_new_alias, has_new_const, has_new_function, has_new_type};
-ghost use Rattle.world_check.specs.Rows.{first_unmet};
+ghost use Rattle.world_check.specs.Meets.{Meets, has_new_alias, has_new_const, has_new_function, has_new_type};
+ghost use Rattle.world_check.specs.Rows.{FindsFailing};
 ghost use Rattle.world_check.specs.WorldPlaces.{of_keyed_rows};
 ghost use Rattle.world_check.specs.declared.place.Place.TheVariants.{Row};
 
@@ -165,9 +165,8 @@ fn wrong_row<K: Ord, R: Row<K> + KeyedRow>(
 }
 
 /// The first wrong row of the layouts, normalized types and resolved impl items.
-#[tactic(auto, using(crate::proofs::FoundIds::keyed_found))]
 pub(crate) fn wrong_keyed_row(db: &HirDatabase) -> Option<Place>
-    ensures { result ≡ first_unmet CheckRow.C1 db.now (of_keyed_rows db.now) }
+    ensures { FindsFailing (Meets CheckRow.C1 db.now) (of_keyed_rows db.now) result }
 {
     let const_impls = wrong_row(db, TableName::ConstImpls, &db.const_impls);
     let impls = wrong_row(db, TableName::Impls, &db.impls).or(const_impls);

@@ -1,7 +1,8 @@
 //! The check of a world: ids are in range, bodies are trees, jumps name enclosing labels, normalized types
 //! and resolved impl items have no alias and no generic parameter in them, layouts follow the rules of all
 //! targets, tags fit their enums, and rows agree with one another. A function `wrong_NOUN` returns the first
-//! place that fails a test, `wrong_NOUN_in` the first in one body, and `wrong_NOUN_among` the first of a slice.
+//! place that is not as asked, `wrong_NOUN_in` the first in one body, and `wrong_NOUN_among` the first of a
+//! slice.
 #![tactic(auto)]
 
 mod agreement;

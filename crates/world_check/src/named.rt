@@ -3,7 +3,8 @@ ghost use Rattle.std.specs.Prelude.{◌≡◌, if◌then◌else◌, not, length,
 ghost use Rattle.std.specs.List.{position};
 ghost use Rattle.std.specs.Option.{option_map};
 ghost use Rattle.check_names.specs.Known.{is_nameable};
-ghost use Rattle.world_check.specs.Rows.{first_unmet};
+ghost use Rattle.world_check.specs.Meets.{Meets};
+ghost use Rattle.world_check.specs.Rows.{FindsFailing};
 ghost use Rattle.world_check.specs.WorldPlaces.{of_adts, of_items, of_names, of_table};
 ghost use Rattle.world_check.specs.declared.place.Place.TheVariants.{Row, Table};
 ghost use Rattle.world_check.specs.declared.place.TableName.TheVariants.{Closures};
@@ -128,17 +129,15 @@ fn wrong_table<R: NamedRow>(db: &HirDatabase, table: TableName, rows: &List<R>) 
 }
 
 /// The first wrong place among the closures.
-#[tactic(auto, using(crate::proofs::FoundIds::closures_found))]
 pub(crate) fn wrong_closure(db: &HirDatabase) -> Option<Place>
-    ensures { result ≡ first_unmet CheckRow.C1 db.now (of_table Closures db.now.closures) }
+    ensures { FindsFailing (Meets CheckRow.C1 db.now) (of_table Closures db.now.closures) result }
 {
     wrong_table(db, TableName::Closures, &db.closures)
 }
 
 /// The first wrong place among crates, functions, constants and statics.
-#[tactic(auto, using(crate::proofs::FoundIds::items_found))]
 pub(crate) fn wrong_item(db: &HirDatabase) -> Option<Place>
-    ensures { result ≡ first_unmet CheckRow.C1 db.now (of_items db.now) }
+    ensures { FindsFailing (Meets CheckRow.C1 db.now) (of_items db.now) result }
 {
     let statics = wrong_table(db, TableName::Statics, &db.statics);
     let consts = wrong_table(db, TableName::Consts, &db.consts).or(statics);
@@ -147,9 +146,8 @@ pub(crate) fn wrong_item(db: &HirDatabase) -> Option<Place>
 }
 
 /// The first wrong place among structs, unions, enums and variants.
-#[tactic(auto, using(crate::proofs::FoundIds::adts_found))]
 pub(crate) fn wrong_adt(db: &HirDatabase) -> Option<Place>
-    ensures { result ≡ first_unmet CheckRow.C1 db.now (of_adts db.now) }
+    ensures { FindsFailing (Meets CheckRow.C1 db.now) (of_adts db.now) result }
 {
     let variants = wrong_table(db, TableName::Variants, &db.variants);
     let enums = wrong_table(db, TableName::Enums, &db.enums).or(variants);
@@ -158,9 +156,8 @@ pub(crate) fn wrong_adt(db: &HirDatabase) -> Option<Place>
 }
 
 /// The first wrong place among traits, aliases and generic parameters.
-#[tactic(auto, using(crate::proofs::FoundIds::names_found))]
 pub(crate) fn wrong_trait_or_param(db: &HirDatabase) -> Option<Place>
-    ensures { result ≡ first_unmet CheckRow.C1 db.now (of_names db.now) }
+    ensures { FindsFailing (Meets CheckRow.C1 db.now) (of_names db.now) result }
 {
     let const_params = wrong_table(db, TableName::ConstParams, &db.const_params);
     let type_params = wrong_length(TableName::TypeParams, db.type_params.len()).or(const_params);

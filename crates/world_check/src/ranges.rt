@@ -3,7 +3,8 @@ ghost use Rattle.std.specs.Prelude.{◌≡◌, if◌then◌else◌, [], ◌∷�
 ghost use Rattle.std.specs.Option.{option_map};
 ghost use Rattle.check_ids.specs.Parts.{wrong_part};
 ghost use Rattle.check_items.specs.Names.{is_function_known};
-ghost use Rattle.world_check.specs.Rows.{failing_place, first_unmet};
+ghost use Rattle.world_check.specs.Meets.{Meets};
+ghost use Rattle.world_check.specs.Rows.{FindsFailing, FindsUnmet};
 ghost use Rattle.world_check.specs.WorldPlaces.{of_bodies, of_code, part_place};
 ghost use Rattle.world_check.specs.declared.place.NamedFunction.TheVariants.{Drop, Deref, DerefMut, Call, CallMut, CallOnce};
 ghost use Rattle.world_check.specs.declared.place.Place.TheVariants.{Function};
@@ -50,7 +51,7 @@ fn wrong_part_in(
 
 /// The place of the first wrong part of a body.
 fn wrong_typed_body(alloc: Global, db: &HirDatabase) -> Result<Option<Place>, NoMemory>
-    ensures { IfOk result (λ found. found ≡ first_unmet CheckRow.C1 db.now (of_bodies 0 db.now.bodies)) }
+    ensures { IfOk result (λ found. FindsFailing (Meets CheckRow.C1 db.now) (of_bodies 0 db.now.bodies) found) }
 {
     let rows = db.bodies.as_slice();
     for (i, row) in rows.iter().enumerate() {
@@ -62,9 +63,8 @@ fn wrong_typed_body(alloc: Global, db: &HirDatabase) -> Result<Option<Place>, No
 }
 
 /// The first wrong place among closures and bodies.
-#[tactic(auto, using(crate::proofs::FoundIds::code_found))]
 fn wrong_body(alloc: Global, db: &HirDatabase) -> Result<Option<Place>, NoMemory>
-    ensures { IfOk result (λ found. found ≡ first_unmet CheckRow.C1 db.now (of_code db.now)) }
+    ensures { IfOk result (λ found. FindsFailing (Meets CheckRow.C1 db.now) (of_code db.now) found) }
 {
     let found = wrong_typed_body(alloc, db)?;
     let bodies = in_table(TableName::Bodies, db.bodies.len(), found);
@@ -87,9 +87,8 @@ fn wrong_lang_function(
 }
 
 /// The first of the functions of `Drop`, `Deref` and `DerefMut` that is out of range.
-#[tactic(auto, using(crate::proofs::FoundIds::drop_or_deref_found))]
 fn wrong_drop_or_deref(db: &HirDatabase) -> Option<Place>
-    ensures { result ≡ first_unmet CheckRow.C1 db.now (Function Drop ∷ Function Deref ∷ Function DerefMut ∷ []) }
+    ensures { FindsFailing (Meets CheckRow.C1 db.now) (Function Drop ∷ Function Deref ∷ Function DerefMut ∷ []) result }
 {
     let deref_mut = wrong_lang_function(NamedFunction::DerefMut, db, db.deref_mut_fn);
     let deref = wrong_lang_function(NamedFunction::Deref, db, db.deref_fn).or(deref_mut);
@@ -97,9 +96,8 @@ fn wrong_drop_or_deref(db: &HirDatabase) -> Option<Place>
 }
 
 /// The first of the functions of `Fn`, `FnMut` and `FnOnce` that is out of range.
-#[tactic(auto, using(crate::proofs::FoundIds::call_found))]
 fn wrong_call(db: &HirDatabase) -> Option<Place>
-    ensures { result ≡ first_unmet CheckRow.C1 db.now (Function Call ∷ Function CallMut ∷ Function CallOnce ∷ []) }
+    ensures { FindsFailing (Meets CheckRow.C1 db.now) (Function Call ∷ Function CallMut ∷ Function CallOnce ∷ []) result }
 {
     let call_once = wrong_lang_function(NamedFunction::CallOnce, db, db.call_once_fn);
     let call_mut = wrong_lang_function(NamedFunction::CallMut, db, db.call_mut_fn).or(call_once);
@@ -107,9 +105,8 @@ fn wrong_call(db: &HirDatabase) -> Option<Place>
 }
 
 /// The first place with an id out of range, a list that is too long, or a key that an earlier row has.
-#[tactic(auto, using(crate::proofs::FoundIds::id_found))]
 pub(crate) fn wrong_id(alloc: Global, db: &HirDatabase) -> Result<Option<Place>, NoMemory>
-    ensures { IfOk result (λ found. found ≡ failing_place CheckRow.C1 db.now) }
+    ensures { IfOk result (λ found. FindsUnmet CheckRow.C1 db.now found) }
 {
     let bodies = wrong_body(alloc, db)?;
     let functions = wrong_drop_or_deref(db).or(wrong_call(db));

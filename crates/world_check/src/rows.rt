@@ -1,7 +1,7 @@
 //! The check of a world, one row of its table after another.
-ghost use Rattle.std.specs.Prelude.{◌≡◌, OnOk, IfErr};
+ghost use Rattle.std.specs.Prelude.{OnOk, IfErr};
 ghost use Rattle.world.specs.Checked.{IsChecked};
-ghost use Rattle.world_check.specs.Rows.{first_failure, IsRefusal, IsRefusalAt};
+ghost use Rattle.world_check.specs.Rows.{Holds, IsRefusal, IsRefusalAt};
 
 use crate::agreement::{wrong_agreement, wrong_layout, wrong_resolution, wrong_tag};
 use crate::place::place_text;
@@ -11,7 +11,7 @@ use crate::{CheckFault, CheckRow, InvalidWorld, Place};
 use std::alloc::Global;
 use world::HirDatabase;
 
-/// The fault for a row that fails at a place.
+/// The fault for a row and a place that doesn't meet it.
 fn refusal(alloc: Global, row: CheckRow, place: Place) -> CheckFault
     ensures { IsRefusalAt row place result }
 {
@@ -21,12 +21,11 @@ fn refusal(alloc: Global, row: CheckRow, place: Place) -> CheckFault
     }
 }
 
-/// Checks a world. A fault names the first row of the check's table that fails and the first place where it
-/// fails, or says that memory ran out.
-#[tactic(auto, unfolding(crate::specs::Rows::first_failure))]
+/// Checks a world. In a world that passes, each place meets each row of the check's table. A fault names the
+/// first row that some place doesn't meet and the first such place, or says that memory ran out.
 pub fn check(alloc: Global, db: &HirDatabase) -> Result<(), CheckFault>
     ensures ok { OnOk result (IsChecked db.now) }
-    ensures passes { OnOk result (first_failure db.now ≡ None) }
+    ensures holds { OnOk result (Holds db.now) }
     ensures refused { IfErr result (IsRefusal db.now) }
 {
     if let Some(place) = wrong_id(alloc, db)? {

@@ -1,12 +1,12 @@
 //! Tests of all bodies: they are trees, jumps name enclosing labels, and `..` stands within its pattern.
-ghost use Rattle.std.specs.Prelude.{◌≡◌, IfOk};
+ghost use Rattle.std.specs.Prelude.{◌≡◌, Some, slice_get, IfOk};
 ghost use Rattle.std.specs.Option.{option_map};
 ghost use Rattle.check_trees.specs.Ellipsis.{wrong_ellipsis};
-ghost use Rattle.check_trees.specs.Jumps.{wrong_jump};
-ghost use Rattle.check_trees.specs.Tree.{wrong_node};
-ghost use Rattle.world_check.specs.Rows.{failing_place, first_unmet};
-ghost use Rattle.world_check.specs.WorldPlaces.{node_place, of_bodies};
-ghost use Rattle.world_check.specs.declared.place.NodeKind.TheVariants.{Exprs, Pats};
+ghost use Rattle.world.specs.declared.database.HirDatabase.{HirDatabase as World};
+ghost use Rattle.world_check.specs.Meets.{Meets};
+ghost use Rattle.world_check.specs.Rows.{FindsFailing, FindsUnmet};
+ghost use Rattle.world_check.specs.WorldPlaces.{node_place, of_bodies, of_body};
+ghost use Rattle.world_check.specs.declared.place.NodeKind.TheVariants.{Pats};
 ghost use Rattle.world_check.specs.declared.place.Place.TheVariants.{Node};
 
 use crate::{CheckRow, NodeKind, Place};
@@ -26,7 +26,7 @@ fn node_place(b: u64, node: BodyNode) -> Place
 
 /// The place of the first node of body `b` that is not in order.
 fn wrong_node_in(alloc: Global, b: u64, row: &BodyRow) -> Result<Option<Place>, NoMemory>
-    ensures { IfOk result (λ found. found ≡ option_map (node_place b) (wrong_node row.now.body)) }
+    ensures { IfOk result (λ found. (world : World) → slice_get world.bodies b ≡ Some row.now → FindsFailing (Meets CheckRow.C2 world) (of_body b row.now.body) found) }
 {
     match wrong_node(alloc, &row.body)? {
         Some(node) => Ok(Some(node_place(b, node))),
@@ -36,7 +36,7 @@ fn wrong_node_in(alloc: Global, b: u64, row: &BodyRow) -> Result<Option<Place>, 
 
 /// The first node at which a body is not a tree.
 pub(crate) fn wrong_tree(alloc: Global, db: &HirDatabase) -> Result<Option<Place>, NoMemory>
-    ensures { IfOk result (λ found. found ≡ failing_place CheckRow.C2 db.now) }
+    ensures { IfOk result (λ found. FindsUnmet CheckRow.C2 db.now found) }
 {
     let rows = db.bodies.as_slice();
     for (i, row) in rows.iter().enumerate() {
@@ -49,7 +49,7 @@ pub(crate) fn wrong_tree(alloc: Global, db: &HirDatabase) -> Result<Option<Place
 
 /// The place of the first jump of body `b` to a label that doesn't enclose it.
 fn wrong_jump_in(alloc: Global, b: u64, row: &BodyRow) -> Result<Option<Place>, NoMemory>
-    ensures { IfOk result (λ found. found ≡ option_map (Node b Exprs) (wrong_jump row.now.body)) }
+    ensures { IfOk result (λ found. (world : World) → slice_get world.bodies b ≡ Some row.now → FindsFailing (Meets CheckRow.C3 world) (of_body b row.now.body) found) }
 {
     match wrong_jump(alloc, &row.body)? {
         Some(i) => Ok(Some(Place::Node(b, NodeKind::Exprs, i))),
@@ -59,7 +59,7 @@ fn wrong_jump_in(alloc: Global, b: u64, row: &BodyRow) -> Result<Option<Place>, 
 
 /// The first jump of the world to a label that doesn't enclose it.
 pub(crate) fn wrong_label(alloc: Global, db: &HirDatabase) -> Result<Option<Place>, NoMemory>
-    ensures { IfOk result (λ found. found ≡ failing_place CheckRow.C3 db.now) }
+    ensures { IfOk result (λ found. FindsUnmet CheckRow.C3 db.now found) }
 {
     let rows = db.bodies.as_slice();
     for (i, row) in rows.iter().enumerate() {
@@ -82,7 +82,7 @@ fn wrong_ellipsis_in(b: u64, row: &BodyRow) -> Option<Place>
 
 /// The place of the first pattern of the world whose `..` stands past the end of its subpatterns.
 pub(crate) fn wrong_pattern(db: &HirDatabase) -> Option<Place>
-    ensures { result ≡ first_unmet CheckRow.C7 db.now (of_bodies 0 db.now.bodies) }
+    ensures { FindsFailing (Meets CheckRow.C7 db.now) (of_bodies 0 db.now.bodies) result }
 {
     let rows = db.bodies.as_slice();
     for (i, row) in rows.iter().enumerate() {

@@ -1,5 +1,5 @@
 use Rattle.std.proofs.Common.{take}
-use Rattle.check_trees.specs.inner.Holders.{AreTimes}
+use Rattle.check_trees.specs.inner.Walks.{AreTimes}
 use Rattle.check_trees.specs.declared.node.BodyNode.TheVariants.{Expr}
 use Rattle.check_trees.proofs.counts.count_exprs.Given as goal
 

@@ -1,9 +1,5 @@
-use Rattle.std.proofs.Common.{◌≡◌, ℕ, ◌+◌, ◌*◌, ◌≤◌, ◌||◌, ltb, drop}
-use Rattle.std.specs.List.{list_any}
-use Rattle.check_trees.specs.inner.Heights.{known_of, AreHeights}
-use Rattle.check_trees.specs.Tree.{has_path}
-use Rattle.check_trees.specs.declared.heights.Known.TheVariants.{Open}
-use Rattle.check_trees.specs.declared.node.BodyNode.{BodyNode}
+use Rattle.std.proofs.Common.{ℕ, ◌+◌, ◌*◌, ◌≤◌, ltb, take, Decides}
+use Rattle.check_trees.specs.inner.Walks.{AreHeights, HaveAPath, LeavesNoneOpen}
 use Rattle.check_trees.proofs.heights.+heights.Given as goal
 
 abbrev pub decreases-height : goal.decreases-height
@@ -16,5 +12,5 @@ abbrev pub invariant-levels_of-loop-i : goal.invariant-levels_of-loop-i
 invariant-levels_of-loop-i l =
     AreHeights l.body l.heights
     × (l.levels ≤ l.budget)
-    × ((steps : ℕ) → (ltb steps l.levels || list_any (has_path l.body steps) (drop l.i l.nodes)) ≡ list_any (has_path l.body steps) l.nodes)
-    × ((node : BodyNode) → known_of l.heights node ≡ Open → known_of l.fn.heights node ≡ Open)
+    × ((steps : ℕ) → Decides (ltb steps l.levels) (HaveAPath l.body steps (take l.i l.nodes)))
+    × LeavesNoneOpen l.fn.heights l.heights

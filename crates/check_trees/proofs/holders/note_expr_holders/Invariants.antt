@@ -1,5 +1,5 @@
 use Rattle.std.proofs.Common.{take}
-use Rattle.check_trees.specs.inner.Holders.{AreFirstHolders}
+use Rattle.check_trees.specs.inner.Walks.{AreFirstHolders}
 use Rattle.check_trees.specs.declared.node.BodyNode.TheVariants.{Expr}
 use Rattle.check_trees.proofs.holders.note_expr_holders.Given as goal
 

@@ -1,10 +1,7 @@
-use Rattle.std.proofs.Common.{◌≡◌, drop}
-use Rattle.check_trees.specs.inner.Heights.{AreSettled}
-use Rattle.world.specs.Failing.{first_failing}
-use Rattle.check_trees.specs.Tree.{is_pat_in_order}
+use Rattle.check_trees.specs.inner.Walks.{AreSettled}
+use Rattle.check_trees.specs.Tree.{IsPatInOrder}
+use Rattle.check_trees.proofs.Listed.{AllBefore}
 use Rattle.check_trees.proofs.order.wrong_pat_among.Given as goal
 
 abbrev pub invariant-loop-i : goal.invariant-loop-i
-invariant-loop-i l =
-    AreSettled l.body l.heights
-    × (first_failing (is_pat_in_order l.body) l.i (drop l.i l.pats) ≡ first_failing (is_pat_in_order l.body) 0 l.pats)
+invariant-loop-i l = AreSettled l.body l.heights × AllBefore (IsPatInOrder l.body) l.pats l.i

@@ -1,5 +1,5 @@
 use Rattle.std.proofs.Common.{take}
-use Rattle.check_trees.specs.inner.Tops.{AreMarked}
+use Rattle.check_trees.specs.inner.Walks.{AreMarked}
 use Rattle.check_trees.proofs.tops.mark_params.Given as goal
 
 abbrev pub invariant-loop-i : goal.invariant-loop-i

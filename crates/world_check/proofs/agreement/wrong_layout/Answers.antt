@@ -1,13 +1,10 @@
-use Rattle.std.proofs.Common.{◌∙◌, sym, ap}
-use Rattle.std.specs.Option.{option_map}
-use Rattle.check_layouts.proofs.Decided.{found_first}
-use Rattle.world_check.specs.declared.place.Place.TheVariants.{Row}
-use Rattle.world_check.specs.declared.place.TableName.TheVariants.{Layouts}
+use Rattle.world_check.specs.Meets.{Meets}
+use Rattle.world_check.specs.WorldPlaces.{places}
+use Rattle.world_check.specs.declared.fault.CheckRow.TheVariants.{C5}
+use Rattle.world_check.proofs.First.{found_is}
 use Rattle.world_check.proofs.FoundPlaces.{layout_found}
 use Rattle.world_check.proofs.agreement.wrong_layout.Goals as goal
 
 pub returns : goal.returns
 returns c =
-    c.row_place.ensures
-    ∙ ap (option_map (Row Layouts)) (found_first c.args.db.now _ (record { none = c.in_ok-found.ensures.none; wrong = c.in_ok-found.ensures.wrong; first = c.in_ok-found.ensures.first }))
-    ∙ sym (layout_found c.args.db.now)
+    found_is (Meets C5 c.args.db.now) (places c.args.db.now) _ c.row_place.result c.row_place.ensures (layout_found c.args.db.now _ c.in_ok-found.ensures.none c.in_ok-found.ensures.wrong c.in_ok-found.ensures.first)

@@ -1,5 +1,4 @@
 use Rattle.std.proofs.Common.{◌≡◌, true, Result, Ok, Err, OnOk, is_ok, sym, ◌∙◌}
-use Rattle.world_check.proofs.CheckedFacts.{Holds-from_passes}
 use Rattle.world_check.proofs.Laid.{laid_out}
 use Rattle.world_check.proofs.callers.passes.Goals as goal
 
@@ -9,4 +8,4 @@ of_ok (Ok t) P fact e = fact
 of_ok (Err f) P fact e = cc
 
 pub returns : goal.returns
-returns c passed = laid_out c.args.db.now (Holds-from_passes c.args.db.now (of_ok c.check.result _ c.check.ensures.passes (sym c.is_ok.ensures.value ∙ passed)))
+returns c passed = laid_out c.args.db.now (of_ok c.check.result _ c.check.ensures.holds (sym c.is_ok.ensures.value ∙ passed))

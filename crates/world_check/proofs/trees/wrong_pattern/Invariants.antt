@@ -1,6 +1,7 @@
-use Rattle.std.proofs.Common.{◌≡◌, drop}
-use Rattle.world_check.proofs.Walks.{first_found, wrong_ellipsis_in}
+use Rattle.world_check.specs.Meets.{Meets}
+use Rattle.world_check.specs.declared.fault.CheckRow.TheVariants.{C7}
+use Rattle.world_check.proofs.Bodies.{ArePassed}
 use Rattle.world_check.proofs.trees.wrong_pattern.Given as goal
 
 abbrev pub invariant-loop-i : goal.invariant-loop-i
-invariant-loop-i l = first_found wrong_ellipsis_in l.i (drop l.i l.rows) ≡ first_found wrong_ellipsis_in 0 l.rows
+invariant-loop-i l = ArePassed (Meets C7 l.db) l.rows l.i
