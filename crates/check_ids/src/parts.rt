@@ -1,11 +1,14 @@
 //! The first part of a typed body that has an id out of range.
-ghost use Rattle.std.specs.Prelude.{◌≡◌, not, IfOk};
-ghost use Rattle.std.specs.List.{list_all, position};
-ghost use Rattle.std.specs.Option.{option_map};
+ghost use Rattle.std.specs.Prelude.{◌≡◌, ◌&&◌, if◌then◌else◌, true, [], ◌∷◌, Some, None, IfOk};
+ghost use Rattle.std.specs.List.{list_all};
+ghost use Rattle.check_ids.specs.Inferred.{is_inferred_right};
 ghost use Rattle.check_ids.specs.Nodes.{is_binding_in_range, is_expr_in_range, is_pat_in_range};
-ghost use Rattle.check_ids.specs.Parts.{are_roots_known, unless, wrong_in_list, wrong_name, wrong_node, wrong_part};
-ghost use Rattle.check_names.specs.Known.{is_in_range};
+ghost use Rattle.check_ids.specs.Parts.{FindsWrong, are_roots_known, list_parts, parts_of};
 ghost use Rattle.check_ids.specs.declared.part.BodyPart.TheVariants as part;
+ghost use Rattle.check_names.specs.Known.{is_in_range};
+ghost use Rattle.check_trees.specs.First.{FindsFirst};
+ghost use Rattle.world.specs.declared.database.HirDatabase.{HirDatabase as World};
+ghost use Rattle.world.specs.declared.infer.InferenceResult.{InferenceResult as Inference};
 
 use crate::BodyPart;
 use crate::inferred::is_inferred_right;
@@ -16,14 +19,14 @@ use world::{Binding, Body, Expr, HirDatabase, InferenceResult, NoMemory, Pat, Pa
 
 /// The part, unless the test passes.
 fn unless(passes: bool, found: BodyPart) -> Option<BodyPart>
-    ensures { result ≡ unless passes found }
+    ensures { result ≡ (if passes then None else Some found) }
 {
     if passes { None } else { Some(found) }
 }
 
 /// The index of the first expression that has an id out of range.
 fn wrong_expr_among(alloc: Global, body: &Body, nodes: &[Expr]) -> Result<Option<usize>, NoMemory>
-    ensures { IfOk result (λ found. found ≡ position (λ node. not (is_expr_in_range body.now node)) nodes.now) }
+    ensures { IfOk result (FindsFirst (λ e node. is_expr_in_range body.now node ≡ true) nodes.now) }
 {
     let mut numbers = Vec::new(alloc);
     for (i, node) in nodes.iter().enumerate() {
@@ -36,7 +39,7 @@ fn wrong_expr_among(alloc: Global, body: &Body, nodes: &[Expr]) -> Result<Option
 
 /// The index of the first pattern that has an id out of range.
 fn wrong_pat_among(alloc: Global, body: &Body, nodes: &[Pat]) -> Result<Option<usize>, NoMemory>
-    ensures { IfOk result (λ found. found ≡ position (λ node. not (is_pat_in_range body.now node)) nodes.now) }
+    ensures { IfOk result (FindsFirst (λ p node. is_pat_in_range body.now node ≡ true) nodes.now) }
 {
     let mut numbers = Vec::new(alloc);
     for (i, node) in nodes.iter().enumerate() {
@@ -49,7 +52,7 @@ fn wrong_pat_among(alloc: Global, body: &Body, nodes: &[Pat]) -> Result<Option<u
 
 /// The list of expressions if it is too long, else the first expression that has an id out of range.
 fn wrong_expr(alloc: Global, body: &Body) -> Result<Option<BodyPart>, NoMemory>
-    ensures { IfOk result (λ found. found ≡ wrong_in_list part.Exprs part.Expr (is_expr_in_range body.now) body.now.exprs) }
+    ensures { IfOk result (λ found. (world : World) (infer : Inference) → FindsWrong world body.now infer (list_parts part.Exprs part.Expr body.now.exprs) found) }
 {
     if !is_nameable(body.exprs.len()) {
         return Ok(Some(BodyPart::Exprs));
@@ -62,7 +65,7 @@ fn wrong_expr(alloc: Global, body: &Body) -> Result<Option<BodyPart>, NoMemory>
 
 /// The list of patterns if it is too long, else the first pattern that has an id out of range.
 fn wrong_pat(alloc: Global, body: &Body) -> Result<Option<BodyPart>, NoMemory>
-    ensures { IfOk result (λ found. found ≡ wrong_in_list part.Pats part.Pat (is_pat_in_range body.now) body.now.pats) }
+    ensures { IfOk result (λ found. (world : World) (infer : Inference) → FindsWrong world body.now infer (list_parts part.Pats part.Pat body.now.pats) found) }
 {
     if !is_nameable(body.pats.len()) {
         return Ok(Some(BodyPart::Pats));
@@ -75,7 +78,7 @@ fn wrong_pat(alloc: Global, body: &Body) -> Result<Option<BodyPart>, NoMemory>
 
 /// The index of the first binding whose closure is no expression of the body.
 fn wrong_binding_among(body: &Body, bindings: &[Binding]) -> Option<usize>
-    ensures { result ≡ position (λ binding. not (is_binding_in_range body.now binding)) bindings.now }
+    ensures { FindsFirst (λ i binding. is_binding_in_range body.now binding ≡ true) bindings.now result }
 {
     bindings
         .iter()
@@ -84,7 +87,7 @@ fn wrong_binding_among(body: &Body, bindings: &[Binding]) -> Option<usize>
 
 /// The list of bindings if it is too long, else the first whose closure is no expression of the body.
 fn wrong_binding(body: &Body) -> Option<BodyPart>
-    ensures { result ≡ wrong_in_list part.Bindings part.Binding (is_binding_in_range body.now) body.now.bindings }
+    ensures { (world : World) (infer : Inference) → FindsWrong world body.now infer (list_parts part.Bindings part.Binding body.now.bindings) result }
 {
     if !is_nameable(body.bindings.len()) {
         return Some(BodyPart::Bindings);
@@ -112,20 +115,21 @@ fn are_roots_known(body: &Body) -> bool
         && (body.body_expr.0 as u64) < body.exprs.len()
 }
 
-/// The first wrong part among the expressions and patterns.
-fn wrong_node(alloc: Global, body: &Body) -> Result<Option<BodyPart>, NoMemory>
-    ensures { IfOk result (λ found. found ≡ wrong_node body.now) }
+/// Whether the ids of a body's parameters, of its root and of its inference result are in range, and each
+/// node has one type.
+fn is_rest_right(db: &HirDatabase, body: &Body, infer: &InferenceResult) -> bool
+    ensures { result ≡ (are_roots_known body.now && is_inferred_right db.now body.now infer.now) }
 {
-    let exprs = wrong_expr(alloc, body)?;
-    let pats = wrong_pat(alloc, body)?;
-    Ok(exprs.or(pats))
+    are_roots_known(body) && is_inferred_right(db, body, infer)
 }
 
-/// The first wrong part among the bindings and labels.
-fn wrong_name(body: &Body) -> Option<BodyPart>
-    ensures { result ≡ wrong_name body.now }
+/// The list of labels if it is too long, else the rest of a typed body if an id in it is out of range or
+/// a node has not one type.
+fn wrong_label_or_rest(db: &HirDatabase, body: &Body, infer: &InferenceResult) -> Option<BodyPart>
+    ensures { FindsWrong db.now body.now infer.now (part.Labels ∷ part.Rest ∷ []) result }
 {
-    wrong_binding(body).or(unless(is_nameable(body.labels.len()), BodyPart::Labels))
+    let rest = unless(is_rest_right(db, body, infer), BodyPart::Rest);
+    unless(is_nameable(body.labels.len()), BodyPart::Labels).or(rest)
 }
 
 /// The first part of a typed body that has an id out of range, a list too long for ids of 32 bits, a
@@ -137,12 +141,10 @@ pub fn wrong_part(
     body: &Body,
     infer: &InferenceResult,
 ) -> Result<Option<BodyPart>, NoMemory>
-    ensures { IfOk result (λ found. found ≡ wrong_part db.now body.now infer.now) }
+    ensures { IfOk result (FindsWrong db.now body.now infer.now (parts_of body.now)) }
 {
-    let node = wrong_node(alloc, body)?;
-    let rest = unless(
-        are_roots_known(body) && is_inferred_right(db, body, infer),
-        BodyPart::Rest,
-    );
-    Ok(node.or(wrong_name(body).or(rest)))
+    let exprs = wrong_expr(alloc, body)?;
+    let pats = wrong_pat(alloc, body)?;
+    let rest = wrong_label_or_rest(db, body, infer);
+    Ok(exprs.or(pats.or(wrong_binding(body).or(rest))))
 }

@@ -1,6 +1,5 @@
--- Layouts as all targets have them: their sizes and alignments, where fields, captures, elements and tags lie, and how tags fit their enums. A look-up gives the
--- layouts of the parts of a type. The check asks these facts of each row of `layouts`, with the rows above for the look-up (`IsRowLaidOut`), and so they hold of
--- all layouts of a world that passed, with all rows for it.
+-- What layouts have in common on all 64-bit targets: their sizes and alignments, where fields, captures, elements and tags lie, and how tags fit their enums. A
+-- look-up gives the layouts of parts: the check takes the rows above for it (`IsRowLaidOut`), and in a world that passed the facts hold with all rows too.
 use Rattle.std.specs.Prelude.{◌≡◌, ℕ, ◌+◌, ◌-◌, ◌*◌, ◌^◌, ◌==◌, ◌<◌, ◌≤◌, if◌then◌else◌, List, [], ◌∷◌, length, Option, Some, None, slice_get, IfSome}
 use Rattle.std.specs.Option.{option_and_then}
 use Rattle.types.specs.declared.ids.AdtId.{AdtId}
@@ -78,7 +77,7 @@ field_type world args field = ty_instance world.normals args field.ty
 abbrev pub capture_type : HirDatabase → GenericArgs → Capture → Option Ty
 capture_type world args capture = ty_instance world.normals args capture.ty
 
--- a part has a type, which has a layout
+-- the type of a part is found, and has a layout
 pub record HasLayout (look : Ty → Option Layout) (found : Option Ty) : Type 0 where
   pub ty : Ty
   pub layout : Layout
@@ -109,13 +108,13 @@ pub record AreElements (look : Ty → Option Layout) (size : ℕ) (element : Ty)
   pub has : look element ≡ Some layout
   pub product : IfSome (number_in len) (λ count. size ≡ count * layout.size)
 
--- a tag has the size of an integer, and ends within the size of the whole
+-- a tag has 1, 2, 4, 8 or 16 bytes, and ends within the size of the whole
 pub record IsTagInside (size : ℕ) (multiple : MultiLayout) : Type 0 where
   pub width : Has (1 ∷ 2 ∷ 4 ∷ 8 ∷ 16 ∷ []) multiple.tag_size
   pub ends : multiple.tag_offset + multiple.tag_size ≤ size
 
--- What the layout of a type says, by the form of the type. The size of a type that has one size on all targets is this one; all fields of the variants of an enum
--- have layouts, also those to which the layout gives no place.
+-- What the layout of a type says, by the form of the type. A size that `known_size` fixes is the layout's; all fields of the variants of an enum have layouts, also
+-- those to which the layout gives no place.
 pub record IsLaidOut (world : HirDatabase) (look : Ty → Option Layout) (ty : Ty) (layout : Layout) : Type 0 where
   pub closed : IsClosed ty
   pub align : IsAlignment layout.align
@@ -132,7 +131,7 @@ pub record IsLaidOut (world : HirDatabase) (look : Ty → Option Layout) (ty : T
 abbrev pub IsRowLaidOut : HirDatabase → ℕ → Type 0
 IsRowLaidOut world i = IfSome (slice_get world.layouts i) (λ (row : Ty × Layout). IsLaidOut world (layout_above world i) row.0 row.1)
 
--- a niche leaves one of the enum's variants without a tag, and has a value for each other, from the first one on
+-- a niche leaves one of the enum's variants without a value of the tag, and has room for one of each other variant, from `start` on
 abbrev pub IsNiche : ℕ → ℕ → TagEncoding → Type 0
 IsNiche variants size Direct = Unit {0}
 IsNiche variants size (Niche untagged first last start) = (untagged < variants) × (start + (variants - 1) ≤ 2 ^ (8 * size))

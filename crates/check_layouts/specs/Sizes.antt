@@ -1,4 +1,4 @@
--- Sizes and alignments that are the same on all targets.
+-- Sizes that the form of a type fixes, on all 64-bit targets.
 use Rattle.std.specs.Prelude.{ℕ, Bool, true, false, not, take, Option, Some, None}
 use Rattle.std.specs.Option.{option_map}
 use Rattle.types.specs.Orders.{ty_cmp}
@@ -19,7 +19,7 @@ use Rattle.world.specs.Lookups.{layout_of}
 use Rattle.world.specs.declared.database.HirDatabase.{HirDatabase}
 use Rattle.world.specs.declared.layout.Layout.{Layout}
 
--- the variant of a type
+-- the outermost layer of a type: its variant of `Ty`, with the parts
 abbrev pub TyLayer : Type 0
 TyLayer = Ty-F Const GenericArg MemoryMap Ty ComplexMemoryMap GenericArgs TraitRef UnevaluatedConst ValueConst
 
@@ -43,7 +43,7 @@ abbrev pub pointer_size : Bool → ℕ
 pointer_size true = 16
 pointer_size false = 8
 
--- the size that all targets give a type, if they give it one
+-- the size that the variant of a type, with that of what it points to, fixes; none for any other type
 abbrev pub known_size : HirDatabase → Ty → Option ℕ
 known_size world ty = known (out-Ty ty)
   where

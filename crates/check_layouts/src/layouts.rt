@@ -1,4 +1,4 @@
-//! Layouts that follow the rules of all targets.
+//! Layouts that follow the rules of all 64-bit targets.
 ghost use Rattle.std.specs.Prelude.{◌≡◌, ℕ, ◌*◌, ◌<◌, List, [], ◌∷◌, None, Some, IfOk, IfSome, OnOk, Decides, slice_get};
 ghost use Rattle.std.specs.Option.{option_copied};
 ghost use Rattle.types.specs.declared.ids.AdtId.TheVariants as adt;
@@ -51,7 +51,7 @@ fn is_tag_inside(size: u64, variants: &Variants) -> bool
     }
 }
 
-/// Whether the alignment is a power of two, and the size a multiple of it and, if all targets give the type
+/// Whether the alignment is a power of two, and the size a multiple of it and, if all 64-bit targets give the type
 /// one size, that one.
 fn is_size_right(db: &HirDatabase, ty: &Ty, layout: &Layout) -> bool
     ensures { Decides result (IsAlignment layout.now.align × ((n : ℕ) × (layout.now.size ≡ n * layout.now.align)) × IfSome (known_size db.now ty.now) (λ known. layout.now.size ≡ known)) }
@@ -318,7 +318,7 @@ fn are_captures_placed(
     }
 }
 
-/// Whether the layout in row `i` of `layouts` follows the rules of all targets. It fails only for want of
+/// Whether the layout in row `i` of `layouts` follows the rules of all 64-bit targets. It fails only for want of
 /// memory.
 fn is_layout_right(
     alloc: Global,
@@ -347,7 +347,7 @@ fn is_layout_right(
     Ok(is_array_size(db, i, ty, layout.size) && is_tag_inside(layout.size, &layout.variants))
 }
 
-/// The index of the first row of `layouts` that breaks a rule of all targets, or none where each row keeps
+/// The index of the first row of `layouts` that breaks a rule of all 64-bit targets, or none where each row keeps
 /// them. It fails only for want of memory.
 pub fn first_wrong_layout(alloc: Global, db: &HirDatabase) -> Result<Option<usize>, NoMemory>
     ensures none { IfOk result (λ found. found ≡ None → (i : ℕ) → IsRowLaidOut db.now i) }

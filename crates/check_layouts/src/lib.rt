@@ -1,4 +1,4 @@
-//! The tests of layouts: they follow the rules of all targets, and their tags
+//! The tests of layouts: they follow the rules of all 64-bit targets, and their tags
 //! fit their enums.
 #![tactic(auto)]
 

@@ -1,4 +1,4 @@
-//! Sizes and alignments that are the same on all targets, and the layouts in earlier rows of the table.
+//! Sizes that are the same on all 64-bit targets, and the layouts in earlier rows of the table.
 ghost use Rattle.std.specs.Prelude.{◌≡◌, ℕ, ◌*◌, ◌<◌, Option, IfSome, Decides};
 ghost use Rattle.std.specs.Option.{option_and_then, option_copied};
 ghost use Rattle.check_layouts.specs.inner.Fields.{IsPlaceOf};
@@ -84,7 +84,7 @@ fn uint_bytes(uint: UintTy) -> u64
     }
 }
 
-/// The size that all targets give a type, if they give it one.
+/// The size that all 64-bit targets give a type, if they give it one.
 pub(crate) fn known_size(db: &HirDatabase, ty: &Ty) -> Option<u64>
     ensures { result ≡ known_size db.now ty.now }
 {

@@ -1,4 +1,4 @@
--- Which ids are in range of the tables of a world, and which mentions pass the tests of the check.
+-- Which ids are in range of the tables of a world, and which mentions pass the tests of the check. A mention is an id, an error or the length of a list in a type.
 use Rattle.std.specs.Prelude.{ℕ, ◌^◌, nat_lt, Bool, true, false, List, length, Option, Some, None}
 use Rattle.std.specs.List.{list_all}
 use Rattle.types.specs.declared.ids.DefWithBodyId.{DefWithBodyId}
@@ -21,11 +21,11 @@ use Rattle.mentions.specs.declared.mention.Mention.TheVariants as mention
 abbrev pub is_in_range : {X : Type 0} → List X → ℕ → Bool
 is_in_range xs i = nat_lt i (length xs)
 
--- few enough entries for indices of 32 bits
+-- fewer than 2^32 entries
 abbrev pub is_nameable : ℕ → Bool
 is_nameable entries = nat_lt entries (2 ^ 32)
 
--- the mentioned id is in range
+-- the mentioned id is in range; an error and a list pass
 abbrev pub is_known : HirDatabase → Mention → Bool
 is_known world (mention.Function id) = is_in_range world.functions id.0
 is_known world (mention.Const id) = is_in_range world.consts id.0
@@ -82,7 +82,7 @@ are_args_closed args = list_all is_closed (args_mentions args)
 abbrev pub are_args_settled : GenericArgs → Bool
 are_args_settled args = list_all is_settled (args_mentions args)
 
--- the id of a definition with a body is in range
+-- the id of a function, a static, a constant or a variant is in range
 abbrev pub is_def_known : HirDatabase → DefWithBodyId → Bool
 is_def_known world (def.FunctionId id) = is_in_range world.functions id.0
 is_def_known world (def.StaticId id) = is_in_range world.statics id.0
@@ -95,7 +95,7 @@ is_variant_known world (variant.EnumVariantId id) = is_in_range world.variants i
 is_variant_known world (variant.StructId id) = is_in_range world.structs id.0
 is_variant_known world (variant.UnionId id) = is_in_range world.unions id.0
 
--- the index is in range for an optional list of fields
+-- there is a list of fields, and it has the index
 abbrev pub has_place : Option (List FieldRow) → ℕ → Bool
 has_place None i = false
 has_place (Some fields) i = is_in_range fields i

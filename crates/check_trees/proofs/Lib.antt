@@ -1,4 +1,6 @@
 pub mod Listed
+pub mod First
+pub mod Numbered
 pub mod Paths
 pub mod Levels
 pub mod Lookups

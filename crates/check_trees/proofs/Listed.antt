@@ -1,8 +1,10 @@
 -- Elements of lists that are joined, mapped or cut off.
-use Rattle.std.proofs.Common.{◌≡◌, ℕ, zero, suc, ◌+◌, ◌<◌, ◌≤◌, Option, Some, None, List, [], ◌∷◌, ◌++◌, map, length, get_or, take, slice_get, ◌⊎◌, inl, inr, refl, sym, ◌∙◌, ap, subst, arith}
+use Rattle.std.proofs.Common.{◌≡◌, ℕ, zero, suc, ◌+◌, ◌<◌, ◌≤◌, Bool, true, false, not, cond, Option, Some, None, List, [], ◌∷◌, ◌++◌, map, length, get_or, take, slice_get, ◌⊎◌, inl, inr, refl, sym, ◌∙◌, ap, subst, arith}
+use Rattle.std.proofs.lemmas.Iterator.Adapters.{position_from-zero}
 use Rattle.std.proofs.lemmas.Bool.{cases_lt}
 use Rattle.std.proofs.lemmas.List.{take_more}
 use Rattle.std.proofs.lemmas.Option.{slice_get-get_or, slice_get_within}
+use Rattle.std.specs.List.{position, position_from}
 use Rattle.check_trees.specs.First.{FindsFirst, Has}
 
 pub has_none : {X : Type 0} (x : X) (A : Type 0) (k : ℕ) → slice_get [] k ≡ Some x → A
@@ -70,3 +72,41 @@ finds_none Asked xs i h before k x at = let inside : k < length xs = slice_get_w
 -- `FindsFirst` at another name of the list and at a known answer
 pub finds_at : {X : Type 0} (Asked : ℕ → X → Type 0) (xs ys : List X) (found is : Option ℕ) → xs ≡ ys → found ≡ is → FindsFirst Asked xs found → FindsFirst Asked ys is
 finds_at Asked xs ys found is e f h = subst (λ zs. FindsFirst Asked zs is) e (subst (FindsFirst Asked xs) f h)
+
+-- a search by a test, where indices begin at `i`
+abbrev FindsFrom : {X : Type 0} → (X → Bool) → ℕ → List X → Option ℕ → Type 0
+FindsFrom {X} test i xs None = FindsFirst (λ k x. test x ≡ true) xs None
+FindsFrom {X} test i xs (Some j) = (k : ℕ) × (i + k ≡ j) × FindsFirst (λ m x. test x ≡ true) xs (Some k)
+
+-- an element that passes is passed over
+one_passes : {X : Type 0} (test : X → Bool) (i : ℕ) (x : X) (xs : List X) (found : Option ℕ) → test x ≡ true → FindsFrom test (i + 1) xs found → FindsFrom test i (x ∷ xs) found
+one_passes {X} test i x xs None passes later = all
+  where
+    all : (k : ℕ) (y : X) → slice_get (x ∷ xs) k ≡ Some y → test y ≡ true
+    all zero y at = let same : x ≡ y = cc in subst (λ z. test z ≡ true) same passes
+    all (suc k) y at = later k y at
+one_passes {X} test i x xs (Some j) passes later =
+    let step : i + suc later.0 ≡ i + 1 + later.0 = omega arith in
+    (suc later.0, step ∙ later.1, (later.2.0, later.2.1, later.2.2, before))
+  where
+    before : (k : ℕ) (y : X) → k < suc later.0 → slice_get (x ∷ xs) k ≡ Some y → test y ≡ true
+    before zero y h at = let same : x ≡ y = cc in subst (λ z. test z ≡ true) same passes
+    before (suc k) y h at = later.2.3 k y (omega arith) at
+
+finds_from : {X : Type 0} (test : X → Bool) (i : ℕ) (xs : List X) → FindsFrom test i xs (position_from (λ x. not (test x)) i xs)
+finds_from test i [] = λ k x at. has_none x (test x ≡ true) k at
+finds_from {X} test i (x ∷ xs) = by (test x) refl (finds_from test (i + 1) xs)
+  where
+    by : (b : Bool) → test x ≡ b → FindsFrom test (i + 1) xs (position_from (λ y. not (test y)) (i + 1) xs) → FindsFrom test i (x ∷ xs) (cond (not b) (Some i) (position_from (λ y. not (test y)) (i + 1) xs))
+    by true passes later = one_passes test i x xs (position_from (λ y. not (test y)) (i + 1) xs) passes later
+    by false fails later = (zero, omega arith, (x, refl, (λ passes. let never : false ≡ true = sym fails ∙ passes in cc), (λ k y h at. absurd (omega arith))))
+
+from_start : {X : Type 0} (test : X → Bool) (xs : List X) (found : Option ℕ) → FindsFrom test 0 xs found → FindsFirst (λ k x. test x ≡ true) xs found
+from_start test xs None first = first
+from_start test xs (Some j) first = let same : first.0 ≡ j = omega (arith, first.1) in subst (λ k. FindsFirst (λ m x. test x ≡ true) xs (Some k)) same first.2
+
+-- the index of the first element that fails a test is that of the first that is not as asked, where passing is asked
+pub position_finds : {X : Type 0} (test : X → Bool) (xs : List X) (found : Option ℕ) → found ≡ position (λ x. not (test x)) xs → FindsFirst (λ k x. test x ≡ true) xs found
+position_finds test xs found is =
+    from_start test xs found
+    (subst (FindsFrom test 0 xs) (sym (is ∙ position_from-zero (λ x. not (test x)) xs)) (finds_from test 0 xs))

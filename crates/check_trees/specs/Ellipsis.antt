@@ -1,8 +1,6 @@
 -- Patterns whose `..` stands among their subpatterns or directly behind them.
-use Rattle.std.specs.Prelude.{ℕ, nat_le, Bool, true, not, List, length, Option, Some, None}
-use Rattle.std.specs.List.{position}
+use Rattle.std.specs.Prelude.{ℕ, nat_le, Bool, true, List, length, Option, Some, None}
 use Rattle.types.specs.declared.ids.PatId.{PatId}
-use Rattle.world.specs.declared.body.Body.{Body}
 use Rattle.world.specs.declared.pat.Pat.{Pat}
 use Rattle.world.specs.declared.pat.Pat.TheVariants as pat
 
@@ -15,7 +13,3 @@ abbrev pub is_ellipsis_inside : Pat → Bool
 is_ellipsis_inside (pat.Tuple args ellipsis) = is_within ellipsis args
 is_ellipsis_inside (pat.TupleStruct args ellipsis) = is_within ellipsis args
 is_ellipsis_inside _ = true
-
--- the first pattern whose `..` stands past the end of its subpatterns
-abbrev pub wrong_ellipsis : Body → Option ℕ
-wrong_ellipsis body = position (λ pattern. not (is_ellipsis_inside pattern)) body.pats

@@ -1,7 +1,7 @@
 //! Patterns whose `..` stands past the end of their subpatterns.
-ghost use Rattle.std.specs.Prelude.{◌≡◌, not};
-ghost use Rattle.std.specs.List.{position};
-ghost use Rattle.check_trees.specs.Ellipsis.{is_ellipsis_inside, is_within, wrong_ellipsis};
+ghost use Rattle.std.specs.Prelude.{◌≡◌, true};
+ghost use Rattle.check_trees.specs.Ellipsis.{is_ellipsis_inside, is_within};
+ghost use Rattle.check_trees.specs.First.{FindsFirst};
 
 use world::{Body, Pat, PatId};
 
@@ -28,14 +28,14 @@ fn is_ellipsis_inside(pat: &Pat) -> bool
 
 /// The first of these patterns whose `..` stands past the end of its subpatterns.
 fn wrong_ellipsis_among(pats: &[Pat]) -> Option<usize>
-    ensures { result ≡ position (λ pat. not (is_ellipsis_inside pat)) pats.now }
+    ensures { FindsFirst (λ p pattern. is_ellipsis_inside pattern ≡ true) pats.now result }
 {
     pats.iter().position(|pat| !is_ellipsis_inside(pat))
 }
 
 /// The first pattern of a body whose `..` stands past the end of its subpatterns.
 pub fn wrong_ellipsis(body: &Body) -> Option<u64>
-    ensures { result ≡ wrong_ellipsis body.now }
+    ensures { FindsFirst (λ p pattern. is_ellipsis_inside pattern ≡ true) body.now.pats result }
 {
     match wrong_ellipsis_among(body.pats.as_slice()) {
         Some(p) => Some(p as u64),

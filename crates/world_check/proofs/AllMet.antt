@@ -5,11 +5,14 @@ use Rattle.std.specs.Option.{is_some}
 use Rattle.world.specs.declared.body.Body.{Body}
 use Rattle.world.specs.declared.database.BodyRow.{BodyRow}
 use Rattle.world.specs.declared.database.HirDatabase.{HirDatabase}
+use Rattle.check_trees.specs.Ellipsis.{is_ellipsis_inside}
 use Rattle.check_trees.specs.Jumps.{IsJumpInside}
 use Rattle.check_trees.specs.Tree.{IsExprInOrder, IsPatInOrder}
-use Rattle.world_check.specs.Meets.{Meets, if_there}
-use Rattle.world_check.specs.Rows.{FindsFailing}
-use Rattle.world_check.specs.WorldPlaces.{named_functions, numbered, of_adts, of_bodies, of_body, of_code, of_items, of_keyed_rows, of_names, of_nodes, of_table, places}
+use Rattle.world_check.specs.Meets.{Meets}
+use Rattle.check_ids.specs.Parts.{if_there}
+use Rattle.check_trees.specs.First.{FindsFailing, numbered}
+use Rattle.world_check.specs.WorldPlaces.{named_functions, of_adts, of_bodies, of_body, of_code, of_items, of_keyed_rows, of_names, of_table, places}
+use Rattle.world_check.proofs.Searches.{of_nodes}
 use Rattle.world_check.specs.declared.fault.CheckRow.{CheckRow}
 use Rattle.world_check.specs.declared.fault.CheckRow.TheVariants.{C1, C2, C3, C4, C5, C6, C7}
 use Rattle.world_check.specs.declared.place.NamedFunction.{NamedFunction}
@@ -20,20 +23,11 @@ use Rattle.world_check.specs.declared.place.Place.{Place}
 use Rattle.world_check.specs.declared.place.Place.TheVariants.{Table, Row, Nodes, Node, Function}
 use Rattle.world_check.specs.declared.place.TableName.{TableName}
 use Rattle.world_check.specs.declared.place.TableName.TheVariants.{Crates, Functions, Consts, Statics, Structs, Unions, Enums, Variants, Traits, Aliases, TypeParams, ConstParams, Closures, Bodies, Layouts, Normals, Impls, ConstImpls}
-use Rattle.world_check.proofs.First.{apart, head}
-use Rattle.world_check.proofs.Searches.{at_numbered}
+use Rattle.check_trees.proofs.First.{apart, head}
+use Rattle.check_trees.proofs.Numbered.{entry}
+use Rattle.world_check.proofs.Segments.{of_body_is}
 
 -- Parts of a list in which nothing fails.
-
--- an element of a list has the property, and so has a place past its end
-entry : {X : Type 0} (P : Place → Type 0) (at : ℕ → Place) (k : ℕ) (xs : List X) → FindsFailing P (numbered at 0 xs) None → (slice_get xs k ≡ None → P (at k)) → P (at k)
-entry {X} P at k xs clear absent = by (slice_get xs k) refl
-  where
-    by : (found : Option X) → slice_get xs k ≡ found → P (at k)
-    by None there = absent there
-    by (Some x) there =
-        let start : 0 + k ≡ k = omega arith in
-        subst (λ j. P (at j)) start (clear k (at (0 + k)) (at_numbered at 0 k xs x there))
 
 -- nothing fails in any part of the list of all places
 record IsNowhere (P : Place → Type 0) (world : HirDatabase) : Type 0 where
@@ -163,7 +157,10 @@ absent_row C7 world Closures i e = absent _ _ e
 absent_row C7 world _ i e = tt
 
 absent_list : (row : CheckRow) (world : HirDatabase) (b : ℕ) (kind : NodeKind) → has_row world Bodies b ≡ false → Meets row world (Nodes b kind)
-absent_list C1 world b kind e = absent _ _ e
+absent_list C1 world b Exprs e = absent _ _ e
+absent_list C1 world b Pats e = absent _ _ e
+absent_list C1 world b Bindings e = absent _ _ e
+absent_list C1 world b Labels e = absent _ _ e
 absent_list C2 world b kind e = tt
 absent_list C3 world b kind e = tt
 absent_list C4 world b kind e = refl
@@ -173,7 +170,10 @@ absent_list C7 world b kind e = tt
 
 -- the body isn't there
 absent_in : (row : CheckRow) (world : HirDatabase) (b : ℕ) (kind : NodeKind) (i : ℕ) → has_row world Bodies b ≡ false → Meets row world (Node b kind i)
-absent_in C1 world b kind i e = absent _ _ e
+absent_in C1 world b Exprs i e = absent _ _ e
+absent_in C1 world b Pats i e = absent _ _ e
+absent_in C1 world b Bindings i e = absent _ _ e
+absent_in C1 world b Labels i e = refl
 absent_in C2 world b Exprs i e = absent_fact _ _ e
 absent_in C2 world b Pats i e = absent_fact _ _ e
 absent_in C2 world b _ i e = tt
@@ -182,7 +182,7 @@ absent_in C3 world b _ i e = tt
 absent_in C4 world b kind i e = refl
 absent_in C5 world b kind i e = tt
 absent_in C6 world b kind i e = tt
-absent_in C7 world b Pats i e = absent _ _ e
+absent_in C7 world b Pats i e = absent_fact _ _ e
 absent_in C7 world b _ i e = tt
 
 abbrev has_node : Body → NodeKind → ℕ → Bool
@@ -199,7 +199,7 @@ absent_node : (row : CheckRow) (world : HirDatabase) (b : ℕ) (kind : NodeKind)
 absent_node C1 world b Exprs i found there e = ap (if_there _) there ∙ absent _ _ e
 absent_node C1 world b Pats i found there e = ap (if_there _) there ∙ absent _ _ e
 absent_node C1 world b Bindings i found there e = ap (if_there _) there ∙ absent _ _ e
-absent_node C1 world b Labels i found there e = ap (if_there _) there
+absent_node C1 world b Labels i found there e = refl
 absent_node C2 world b Exprs i found there e = absent_inside (λ body. IsExprInOrder body i) (λ body. slice_get body.exprs i) (slice_get world.bodies b) found there e
 absent_node C2 world b Pats i found there e = absent_inside (λ body. IsPatInOrder body i) (λ body. slice_get body.pats i) (slice_get world.bodies b) found there e
 absent_node C2 world b _ i found there e = tt
@@ -208,7 +208,7 @@ absent_node C3 world b _ i found there e = tt
 absent_node C4 world b kind i found there e = refl
 absent_node C5 world b kind i found there e = tt
 absent_node C6 world b kind i found there e = tt
-absent_node C7 world b Pats i found there e = ap (if_there _) there ∙ absent _ _ e
+absent_node C7 world b Pats i found there e = absent_inside (λ body pattern. is_ellipsis_inside pattern ≡ true) (λ body. slice_get body.pats i) (slice_get world.bodies b) found there e
 absent_node C7 world b _ i found there e = tt
 
 -- Each place.
@@ -253,8 +253,9 @@ record IsNowhereIn (P : Place → Type 0) (b : ℕ) (body : Body) : Type 0 where
 in_body : (P : Place → Type 0) (world : HirDatabase) → IsNowhere P world → (b : ℕ) (row : BodyRow) → slice_get world.bodies b ≡ Some row → IsNowhereIn P b row.body
 in_body P world clear b row there =
     let start : 0 + b ≡ b = omega arith in
-    let whole : FindsFailing P (of_body b row.body) None = subst (λ j. FindsFailing P (of_body j row.body) None) start (body_from P 0 b world.bodies row (head P (Table Bodies) (of_bodies 0 world.bodies) clear.bodies).1 there) in
-    let e = apart P (of_nodes b Exprs row.body.exprs) (of_nodes b Pats row.body.pats ++ (of_nodes b Bindings row.body.bindings ++ (Nodes b Labels ∷ Row Bodies b ∷ []))) whole in
+    let whole = subst (λ j. FindsFailing P (of_body j row.body) None) start (body_from P 0 b world.bodies row (head P (Table Bodies) (of_bodies 0 world.bodies) clear.bodies).1 there) in
+    let listed = subst (λ xs. FindsFailing P xs None) (of_body_is b row.body) whole in
+    let e = apart P (of_nodes b Exprs row.body.exprs) (of_nodes b Pats row.body.pats ++ (of_nodes b Bindings row.body.bindings ++ (Nodes b Labels ∷ Row Bodies b ∷ []))) listed in
     let f = apart P (of_nodes b Pats row.body.pats) (of_nodes b Bindings row.body.bindings ++ (Nodes b Labels ∷ Row Bodies b ∷ [])) e.1 in
     let g = apart P (of_nodes b Bindings row.body.bindings) (Nodes b Labels ∷ Row Bodies b ∷ []) f.1 in
     record { exprs = e.0; pats = f.0; bindings = g.0; rest = g.1 }

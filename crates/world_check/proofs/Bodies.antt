@@ -4,7 +4,7 @@ use Rattle.std.proofs.lemmas.Bool.{cases_lt}
 use Rattle.std.proofs.lemmas.Option.{slice_get-get_or, slice_get_within}
 use Rattle.std.specs.List.{slice_get}
 use Rattle.world.specs.declared.database.BodyRow.{BodyRow}
-use Rattle.world_check.specs.Rows.{FindsFailing}
+use Rattle.check_trees.specs.First.{FindsFailing}
 use Rattle.world_check.specs.WorldPlaces.{of_bodies, of_body}
 use Rattle.world_check.specs.declared.place.Place.{Place}
 use Rattle.world_check.proofs.Segments.{bodies_none, bodies_some}

@@ -19,13 +19,13 @@ use Rattle.world.specs.declared.items.ConstRow.{ConstRow}
 use Rattle.world.specs.declared.layout.Layout.{Layout}
 use Rattle.world.specs.declared.pat.Pat.{Pat}
 use Rattle.check_ids.specs.Inferred.{has_type_each, is_inferred_right}
-use Rattle.check_ids.specs.Parts.{are_roots_known}
+use Rattle.check_ids.specs.Parts.{are_roots_known, if_there, is_part_right}
+use Rattle.check_ids.specs.declared.part.BodyPart.TheVariants as part
 use Rattle.check_trees.specs.First.{Has}
 use Rattle.check_trees.specs.Tree.{AreBelow, IsExprInOrder, StandsInside}
 use Rattle.check_items.specs.Names.{is_body_known, is_const_named}
 use Rattle.check_layouts.specs.Sizes.{known_size, layout_above}
 use Rattle.check_layouts.specs.Laid.{IsLaidOut}
-use Rattle.world_check.specs.Meets.{if_there, is_typed_body_known}
 use Rattle.world_check.specs.Rows.{Holds}
 use Rattle.world_check.specs.declared.fault.CheckRow.TheVariants.{C1, C2, C5}
 use Rattle.world_check.specs.declared.place.NodeKind.TheVariants.{Exprs}
@@ -90,7 +90,7 @@ unfolding StandsInside
 held_below body e p pat there below =
     all_below e (inner_exprs_of pat) (λ inner has. below inner (subst (λ ids. Has ids inner) (sym (ap (λ found. option_map_or inner_exprs_of found []) there)) has))
 
-checked_body : (world : HirDatabase) (row : BodyRow) → is_typed_body_known world row ≡ true → ((e : ℕ) (node : Expr) → slice_get row.body.exprs e ≡ Some node → IsExprInOrder row.body e node) → IsCheckedBody row.body row.infer
+checked_body : (world : HirDatabase) (row : BodyRow) → is_part_right world row.body row.infer part.Rest ≡ true → ((e : ℕ) (node : Expr) → slice_get row.body.exprs e ≡ Some node → IsExprInOrder row.body e node) → IsCheckedBody row.body row.infer
 checked_body world row known ordered =
     let body = row.body in
     let parts = both (are_roots_known body) (is_inferred_right world body row.infer) known in
@@ -114,7 +114,7 @@ checked_body world row known ordered =
 pub IsChecked-from_holds : (world : HirDatabase) → Holds world → IsChecked world
 IsChecked-from_holds world holds = record {
   consts = λ i row at. checked_const world row (passes_there (is_const_named world) (slice_get world.consts i) row at (holds.met C1 (Row Consts i)));
-  bodies = λ b row at. checked_body world row (passes_there (is_typed_body_known world) (slice_get world.bodies b) row at (holds.met C1 (Row Bodies b))) (ordered b row at);
+  bodies = λ b row at. checked_body world row (passes_there (λ (r : BodyRow). is_part_right world r.body r.infer part.Rest) (slice_get world.bodies b) row at (holds.met C1 (Row Bodies b))) (ordered b row at);
   layouts = λ i row at.
       let laid = of_there (λ (r : Ty × Layout). IsLaidOut world (layout_above world i) r.0 r.1) (slice_get world.layouts i) row at (holds.met C5 (Row Layouts i)) in
       checked_layout world (layout_above world i) row.0 row.1 laid;

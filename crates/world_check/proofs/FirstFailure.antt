@@ -1,8 +1,9 @@
 -- A refusal names the first row that doesn't hold everywhere, and the first place that doesn't meet it.
-use Rattle.std.proofs.Common.{◌≡◌, ℕ, ◌+◌, ◌<◌, Option, Some, None, slice_get, refl, sym, ◌∙◌, ap, arith, subst}
+use Rattle.std.proofs.Common.{◌≡◌, ℕ, ◌+◌, ◌<◌, Option, Some, None, slice_get, refl, sym, arith, subst}
 use borrow.Author.Count.{below_more}
 use Rattle.world.specs.declared.database.HirDatabase.{HirDatabase}
-use Rattle.world_check.specs.Rows.{FailsFirst, FindsUnmet, Holds, IsRefusal, IsRefusalAt, all_rows}
+use Rattle.world_check.specs.Rows.{FindsUnmet, Holds, IsRefusal, IsRefusalAt, all_rows}
+use Rattle.check_trees.specs.First.{FailsFirst}
 use Rattle.world_check.specs.Meets.{Meets}
 use Rattle.world_check.specs.WorldPlaces.{places}
 use Rattle.world_check.specs.declared.fault.CheckFault.{CheckFault}
@@ -65,11 +66,15 @@ pub first_failure : (world : HirDatabase) (index : ℕ) (row : CheckRow) (found 
 first_failure world index row found place NoMemory at passed is unmet says = tt
 first_failure world index row found place (InvalidWorld invalid) at passed is unmet says =
     let first : FindsUnmet row world (Some place) = subst (FindsUnmet row world) is unmet in
-    record {
+    let row_first : FailsFirst (λ other. (anywhere : Place) → Meets other world anywhere) all_rows row = record {
       index = index;
-      place = place;
-      at = at ∙ ap Some (sym says.0);
-      named = says.1;
-      first = subst (λ r. FailsFirst (Meets r world) (places world) place) (sym says.0) first;
+      at = at;
+      fails = λ all. first.fails (all place);
       before = λ j other h there. all_met other world (passed.none j other h there);
+    } in
+    record {
+      place = place;
+      named = says.1;
+      row_fails = subst (FailsFirst (λ other. (anywhere : Place) → Meets other world anywhere) all_rows) (sym says.0) row_first;
+      place_fails = subst (λ r. FailsFirst (Meets r world) (places world) place) (sym says.0) first;
     }

@@ -3,7 +3,6 @@ use Rattle.std.proofs.Common.{◌≡◌, ℕ, ◌<◌, Bool, true, false, Option
 use Rattle.std.specs.List.{slice_get}
 use Rattle.std.specs.Option.{option_map, option_or}
 use Rattle.types.specs.declared.ty.Ty.{Ty}
-use Rattle.world.specs.declared.database.BodyRow.{BodyRow}
 use Rattle.world.specs.declared.database.HirDatabase.{HirDatabase}
 use Rattle.world.specs.declared.layout.Layout.{Layout}
 use Rattle.check_items.specs.Agree.{IsListedRight, IsRowListedRight, has_all_params, is_closure_row}
@@ -11,23 +10,22 @@ use Rattle.check_items.specs.Closed.{is_const_impl_closed, is_impl_closed, is_no
 use Rattle.check_layouts.proofs.Decided.{is_tag_right, tag_answer}
 use Rattle.check_layouts.specs.Laid.{HasRightTag, IsLaidOut, IsRowLaidOut}
 use Rattle.check_layouts.specs.Sizes.{layout_above}
-use Rattle.check_trees.specs.Ellipsis.{is_ellipsis_inside}
 use Rattle.world_check.specs.Meets.{Meets}
-use Rattle.world_check.specs.Rows.{FindsFailing, FindsUnmet}
-use Rattle.world_check.specs.WorldPlaces.{of_bodies, of_body, of_table, places}
+use Rattle.world_check.specs.Rows.{FindsUnmet}
+use Rattle.check_trees.specs.First.{FindsFailing}
+use Rattle.world_check.specs.WorldPlaces.{of_bodies, of_table, places}
 use Rattle.world_check.specs.declared.fault.CheckRow.TheVariants.{C2, C3, C4, C5, C6, C7}
-use Rattle.world_check.specs.declared.place.NodeKind.TheVariants.{Exprs, Pats, Bindings, Labels}
 use Rattle.world_check.specs.declared.place.Place.{Place}
 use Rattle.world_check.specs.declared.place.Place.TheVariants.{Table, Row, Nodes, Node, Function}
 use Rattle.world_check.specs.declared.place.NamedFunction.{NamedFunction}
 use Rattle.world_check.specs.declared.place.NodeKind.{NodeKind}
 use Rattle.world_check.specs.declared.place.TableName.{TableName}
 use Rattle.world_check.specs.declared.place.TableName.TheVariants.{Crates, Functions, Consts, Statics, Structs, Unions, Enums, Variants, Traits, Aliases, TypeParams, ConstParams, Closures, Bodies, Layouts, Normals, Impls, ConstImpls}
-use Rattle.world_check.proofs.First.{met_here}
+use Rattle.check_trees.proofs.First.{met_here}
 use Rattle.world_check.proofs.Laid.{of_there}
-use Rattle.world_check.proofs.Searches.{nodes_met, nodes_wrong, rows_found, rows_wrong, table_met}
-use Rattle.world_check.proofs.Segments.{adts, adts_met, all_places, asked, asked_in, bodies_met, code, functions_met, items, items_met, keyed, keyed_met, names_met, one_body, or_none, to_there, two_met}
-use Rattle.world_check.proofs.Walks.{wrong_ellipsis_in, wrong_resolution, wrong_row, wrong_tag}
+use Rattle.world_check.proofs.Searches.{rows_found, rows_wrong, table_met}
+use Rattle.world_check.proofs.Segments.{adts, adts_met, all_places, asked, bodies_met, code, functions_met, items, items_met, keyed, keyed_met, names_met, or_none, to_there}
+use Rattle.world_check.proofs.Walks.{wrong_resolution, wrong_row, wrong_tag}
 
 -- Rows that ask only of bodies.
 
@@ -113,15 +111,6 @@ tag_found world =
         ((λ e. to_there (λ (r : Ty × Layout). HasRightTag world r.0 r.1) (slice_get world.layouts i) row at (decides.0 e)), (λ has. decides.1 (of_there (λ (r : Ty × Layout). HasRightTag world r.0 r.1) (slice_get world.layouts i) row at has)))
 
 -- Rows that agree with others.
-
-pub ellipsis_in_body : (world : HirDatabase) (b : ℕ) (row : BodyRow) → slice_get world.bodies b ≡ Some row → FindsFailing (Meets C7 world) (of_body b row.body) (wrong_ellipsis_in b row)
-ellipsis_in_body world b row there =
-    subst (FindsFailing (Meets C7 world) (of_body b row.body)) (or_none (wrong_ellipsis_in b row))
-    (one_body (Meets C7 world) b row.body None (wrong_ellipsis_in b row) None None
-    (nodes_met (Meets C7 world) b Exprs row.body.exprs tt (λ i. tt))
-    (nodes_wrong (Meets C7 world) b Pats is_ellipsis_inside row.body.pats tt (λ p found at. asked_in (λ body. is_ellipsis_inside) (λ body. slice_get body.pats p) (slice_get world.bodies b) row found there at))
-    (nodes_met (Meets C7 world) b Bindings row.body.bindings tt (λ i. tt))
-    (two_met (Meets C7 world) (Nodes b Labels) (Row Bodies b) tt tt))
 
 pub agreement_found : (world : HirDatabase) (unlisted : Option ℕ) (ellipsis : Option Place) → (unlisted ≡ None → (v : ℕ) → IsRowListedRight world v) → IfSome unlisted (λ v. IsRowListedRight world v → ⊥) → IfSome unlisted (λ v. (w : ℕ) → w < v → IsRowListedRight world w) → FindsFailing (Meets C7 world) (of_bodies 0 world.bodies) ellipsis
     → FindsUnmet C7 world (option_or (wrong_row Functions (has_all_params world) world.functions) (option_or (option_map (Row Variants) unlisted) (option_or (wrong_row Closures (is_closure_row world) world.closures) ellipsis)))

@@ -1,4 +1,3 @@
-pub mod First
 pub mod Searches
 pub mod Segments
 pub mod NewKeys

@@ -1,13 +1,17 @@
 -- What is the first of all places that lacks a property, by what is first in the parts of their list.
-use Rattle.std.proofs.Common.{◌≡◌, ℕ, zero, suc, ◌+◌, ◌<◌, Bool, true, Option, Some, None, List, [], ◌∷◌, Decides, IfSome, refl, sym, ◌∙◌, ap, arith, subst}
+use Rattle.std.proofs.Common.{◌≡◌, ℕ, zero, suc, ◌+◌, ◌<◌, Bool, true, Option, Some, None, List, [], ◌∷◌, ◌++◌, map, Decides, IfSome, refl, sym, ◌∙◌, ap, arith, subst}
 use Rattle.std.specs.List.{slice_get}
 use Rattle.std.specs.Option.{option_or}
 use Rattle.world.specs.declared.body.Body.{Body}
 use Rattle.world.specs.declared.database.BodyRow.{BodyRow}
 use Rattle.world.specs.declared.database.HirDatabase.{HirDatabase}
-use Rattle.world_check.specs.Meets.{if_there}
-use Rattle.world_check.specs.Rows.{FindsFailing}
-use Rattle.world_check.specs.WorldPlaces.{named_functions, of_adts, of_bodies, of_body, of_code, of_items, of_keyed_rows, of_names, of_nodes, of_table, places}
+use Rattle.check_ids.specs.Parts.{if_there, list_parts}
+use Rattle.check_ids.specs.declared.part.BodyPart.{BodyPart}
+use Rattle.check_ids.specs.declared.part.BodyPart.TheVariants as part
+use Rattle.check_trees.specs.First.{FindsFailing, numbered}
+use Rattle.check_trees.proofs.First.{four, joined, longer, met_here, nothing, passed}
+use Rattle.check_trees.proofs.Numbered.{map_numbered}
+use Rattle.world_check.specs.WorldPlaces.{named_functions, of_adts, of_bodies, of_body, of_code, of_items, of_keyed_rows, of_names, of_table, part_place, places}
 use Rattle.world_check.specs.declared.place.NodeKind.{NodeKind}
 use Rattle.world_check.specs.declared.place.NodeKind.TheVariants.{Exprs, Pats, Bindings, Labels}
 use Rattle.world_check.specs.declared.place.Place.{Place}
@@ -16,8 +20,7 @@ use Rattle.world_check.specs.declared.place.NamedFunction.{NamedFunction}
 use Rattle.world_check.specs.declared.place.NamedFunction.TheVariants.{Drop, Deref, DerefMut, Call, CallMut, CallOnce}
 use Rattle.world_check.specs.declared.place.TableName.{TableName}
 use Rattle.world_check.specs.declared.place.TableName.TheVariants.{Crates, Functions, Consts, Statics, Structs, Unions, Enums, Variants, Traits, Aliases, TypeParams, ConstParams, Closures, Bodies, Layouts, Normals, Impls, ConstImpls}
-use Rattle.world_check.proofs.First.{four, joined, longer, met_here, nothing, passed}
-use Rattle.world_check.proofs.Searches.{nodes_met, table_met}
+use Rattle.world_check.proofs.Searches.{nodes_met, of_nodes, table_met}
 
 pub or_both : {A : Type 0} (a b c d : Option A) → a ≡ b → c ≡ d → option_or a c ≡ option_or b d
 or_both a b c d e f = ap (λ o. option_or o c) e ∙ ap (option_or b) f
@@ -100,11 +103,36 @@ functions_met P met =
     (met_here P (Function Call) (Function CallMut ∷ Function CallOnce ∷ []) None (met Call)
     (two_met P (Function CallMut) (Function CallOnce) (met CallMut) (met CallOnce)))))
 
+map_joined : {X Y : Type 0} (f : X → Y) (xs ys : List X) → map f (xs ++ ys) ≡ map f xs ++ map f ys
+map_joined f [] ys = refl
+map_joined f (x ∷ xs) ys = ap (λ zs. f x ∷ zs) (map_joined f xs ys)
+
+-- the parts of a list, as places
+listed : {X : Type 0} (b : ℕ) (whole : BodyPart) (at : ℕ → BodyPart) (nodes : List X) (tail : List BodyPart) → map (part_place b) (list_parts whole at nodes ++ tail) ≡ (part_place b whole ∷ numbered (λ i. part_place b (at i)) 0 nodes) ++ map (part_place b) tail
+listed b whole at nodes tail =
+    map_joined (part_place b) (list_parts whole at nodes) tail
+    ∙ ap (λ xs. (part_place b whole ∷ xs) ++ map (part_place b) tail) (map_numbered (part_place b) at 0 nodes)
+
+-- the places of a body, list by list
+pub of_body_is : (b : ℕ) (body : Body) → of_body b body ≡ of_nodes b Exprs body.exprs ++ (of_nodes b Pats body.pats ++ (of_nodes b Bindings body.bindings ++ (Nodes b Labels ∷ Row Bodies b ∷ [])))
+of_body_is b body =
+    listed b part.Exprs part.Expr body.exprs (list_parts part.Pats part.Pat body.pats ++ (list_parts part.Bindings part.Binding body.bindings ++ (part.Labels ∷ part.Rest ∷ [])))
+    ∙ ap (λ xs. of_nodes b Exprs body.exprs ++ xs)
+    (listed b part.Pats part.Pat body.pats (list_parts part.Bindings part.Binding body.bindings ++ (part.Labels ∷ part.Rest ∷ []))
+    ∙ ap (λ xs. of_nodes b Pats body.pats ++ xs) (listed b part.Bindings part.Binding body.bindings (part.Labels ∷ part.Rest ∷ [])))
+
 -- one body
 pub one_body : (P : Place → Type 0) (b : ℕ) (body : Body) (exprs pats bindings rest : Option Place) → FindsFailing P (of_nodes b Exprs body.exprs) exprs → FindsFailing P (of_nodes b Pats body.pats) pats → FindsFailing P (of_nodes b Bindings body.bindings) bindings → FindsFailing P (Nodes b Labels ∷ Row Bodies b ∷ []) rest
     → FindsFailing P (of_body b body) (option_or exprs (option_or pats (option_or bindings rest)))
 one_body P b body exprs pats bindings rest e f g h =
-    four P (of_nodes b Exprs body.exprs) (of_nodes b Pats body.pats) (of_nodes b Bindings body.bindings) (Nodes b Labels ∷ Row Bodies b ∷ []) exprs pats bindings rest e f g h
+    subst (λ xs. FindsFailing P xs (option_or exprs (option_or pats (option_or bindings rest)))) (sym (of_body_is b body))
+    (four P (of_nodes b Exprs body.exprs) (of_nodes b Pats body.pats) (of_nodes b Bindings body.bindings) (Nodes b Labels ∷ Row Bodies b ∷ []) exprs pats bindings rest e f g h)
+
+-- the first of the expressions of a body is the first of the body
+pub first_expr : (P : Place → Type 0) (b : ℕ) (body : Body) (place : Place) → FindsFailing P (of_nodes b Exprs body.exprs) (Some place) → FindsFailing P (of_body b body) (Some place)
+first_expr P b body place found =
+    subst (λ xs. FindsFailing P xs (Some place)) (sym (of_body_is b body))
+    (longer P (of_nodes b Exprs body.exprs) (of_nodes b Pats body.pats ++ (of_nodes b Bindings body.bindings ++ (Nodes b Labels ∷ Row Bodies b ∷ []))) place found)
 
 -- all bodies, with numbers from `b` on: none has such a place
 pub bodies_none : (P : Place → Type 0) (b : ℕ) (rows : List BodyRow) → ((k : ℕ) (row : BodyRow) → slice_get rows k ≡ Some row → FindsFailing P (of_body (b + k) row.body) None) → FindsFailing P (of_bodies b rows) None
@@ -163,12 +191,6 @@ bodies_some P b (suc i) (first ∷ rows) row place at none found =
 -- an optional element passes a test where the one that is there does
 pub asked : {X : Type 0} (test : X → Bool) (found : Option X) (x : X) → found ≡ Some x → Decides (test x) (if_there test found ≡ true)
 asked test found x there = ((λ e. ap (if_there test) there ∙ e), (λ e. sym (ap (if_there test) there) ∙ e))
-
--- a body's nodes are tested in the body that is there
-pub asked_in : {X : Type 0} (test : Body → X → Bool) (nodes : Body → Option X) (found : Option BodyRow) (row : BodyRow) (x : X) → found ≡ Some row → nodes row.body ≡ Some x → Decides (test row.body x) (if_there (λ (r : BodyRow). if_there (test r.body) (nodes r.body)) found ≡ true)
-asked_in test nodes found row x there at =
-    let whole = ap (if_there (λ (r : BodyRow). if_there (test r.body) (nodes r.body))) there ∙ ap (if_there (test row.body)) at in
-    ((λ e. whole ∙ e), (λ e. sym whole ∙ e))
 
 -- a fact of the element that is there is that of an optional one
 pub to_there : {X : Type 0} (fact : X → Type 0) (found : Option X) (x : X) → found ≡ Some x → fact x → IfSome found fact

@@ -13,10 +13,11 @@ use Rattle.world.specs.declared.items.StructRow.{StructRow}
 use Rattle.world.specs.declared.items.VariantRow.{VariantRow}
 use Rattle.world.specs.declared.layout.Layout.{Layout}
 use Rattle.check_ids.specs.Inferred.{are_types_named, has_type_each, is_inferred_right}
-use Rattle.check_ids.specs.Parts.{are_roots_known}
+use Rattle.check_ids.specs.Parts.{are_roots_known, if_there, is_part_right}
+use Rattle.check_ids.specs.declared.part.BodyPart.TheVariants as part
 use Rattle.check_items.specs.Names.{are_fields_named, are_variants_named, is_layout_named, is_struct_named, is_variant_named}
 use Rattle.check_names.specs.Known.{is_named, is_nameable, is_ty_named}
-use Rattle.world_check.specs.Meets.{has_new_type, if_there, is_typed_body_known}
+use Rattle.world_check.specs.Meets.{has_new_type}
 use Rattle.world_check.specs.Rows.{Holds}
 use Rattle.world_check.specs.TypeIds.{AreIdsKnown, HasKnownIds}
 use Rattle.world_check.specs.declared.fault.CheckRow.TheVariants.{C1}
@@ -39,7 +40,7 @@ at_index test found x there e = ap (if_there test) (sym there) ∙ e
 -- all types that inference found in a body
 inferred : (world : HirDatabase) (b : ℕ) (row : BodyRow) → Holds world → slice_get world.bodies b ≡ Some row → are_types_named world row.infer ≡ true
 inferred world b row holds there =
-    let whole = at_index (is_typed_body_known world) (slice_get world.bodies b) row there (holds.met C1 (Row Bodies b)) in
+    let whole = at_index (λ (r : BodyRow). is_part_right world r.body r.infer part.Rest) (slice_get world.bodies b) row there (holds.met C1 (Row Bodies b)) in
     let parts = both (are_roots_known row.body) (is_inferred_right world row.body row.infer) whole in
     let a = both _ _ parts.1 in
     let c = both _ _ a.0 in

@@ -1,4 +1,4 @@
--- What the code finds in tables and in one body: the first place that fails a test, in the order of the world's fields.
+-- What the code finds in tables: the first place that fails a test, in the order of the world's fields.
 use Rattle.std.proofs.Common.{◌≡◌, ℕ, ◌&&◌, Bool, not, Option, Some, None, List, length, ◌∙◌, ap}
 use Rattle.std.specs.Prelude.{if◌then◌else◌}
 use Rattle.std.specs.List.{position}
@@ -7,7 +7,6 @@ use Rattle.types.specs.declared.ids.AliasId.{AliasId}
 use Rattle.types.specs.declared.ids.FunctionId.{FunctionId}
 use Rattle.types.specs.declared.ty.GenericArgs.{GenericArgs}
 use Rattle.types.specs.declared.ty.Ty.{Ty}
-use Rattle.world.specs.declared.database.BodyRow.{BodyRow}
 use Rattle.world.specs.declared.database.HirDatabase.{HirDatabase}
 use Rattle.world.specs.declared.impls.ConstImplRow.{ConstImplRow}
 use Rattle.world.specs.declared.impls.ImplRow.{ImplRow}
@@ -15,17 +14,13 @@ use Rattle.world.specs.declared.layout.Layout.{Layout}
 use Rattle.check_names.specs.Known.{is_nameable}
 use Rattle.check_items.specs.Closed.{is_const_impl_closed, is_impl_closed, is_normal_closed}
 use Rattle.check_items.specs.Names.{is_const_impl_named, is_const_named, is_const_param_named, is_enum_named, is_function_known, is_function_named, is_impl_named, is_layout_named, is_normal_named, is_static_named, is_struct_named, is_variant_named}
-use Rattle.check_ids.specs.Parts.{wrong_part}
-use Rattle.check_trees.specs.Ellipsis.{wrong_ellipsis}
 use Rattle.world.specs.Failing.{first_failing}
 use Rattle.check_layouts.proofs.Decided.{is_tag_right}
 use Rattle.world_check.specs.Meets.{has_new_alias, has_new_const, has_new_function, has_new_type}
-use Rattle.world_check.specs.WorldPlaces.{part_place}
 use Rattle.world_check.specs.declared.place.NamedFunction.{NamedFunction}
 use Rattle.world_check.specs.declared.place.NamedFunction.TheVariants.{Drop, Deref, DerefMut, Call, CallMut, CallOnce}
-use Rattle.world_check.specs.declared.place.NodeKind.TheVariants.{Pats}
 use Rattle.world_check.specs.declared.place.Place.{Place}
-use Rattle.world_check.specs.declared.place.Place.TheVariants.{Table, Row, Node, Function}
+use Rattle.world_check.specs.declared.place.Place.TheVariants.{Table, Row, Function}
 use Rattle.world_check.specs.declared.place.TableName.{TableName}
 use Rattle.world_check.specs.declared.place.TableName.TheVariants.{Crates, Functions, Consts, Statics, Structs, Unions, Enums, Variants, Traits, Aliases, TypeParams, ConstParams, Layouts, Normals, Impls, ConstImpls}
 
@@ -62,9 +57,6 @@ abbrev pub wrong_table : {X : Type 0} → TableName → (X → Bool) → List X 
 wrong_table table test rows = in_table table (length rows) (wrong_row table test rows)
 
 -- Ids are in range, lists are short enough for ids of 32 bits, and keys are distinct.
-
-abbrev pub wrong_part_in : HirDatabase → ℕ → BodyRow → Option Place
-wrong_part_in world b row = option_map (part_place b) (wrong_part world row.body row.infer)
 
 abbrev pub wrong_item : HirDatabase → Option Place
 wrong_item world =
@@ -122,8 +114,3 @@ wrong_resolution world =
 
 abbrev pub wrong_tag : HirDatabase → Option Place
 wrong_tag world = wrong_row Layouts (is_tag_right world) world.layouts
-
--- Each `..` stands within its pattern.
-
-abbrev pub wrong_ellipsis_in : ℕ → BodyRow → Option Place
-wrong_ellipsis_in b row = option_map (Node b Pats) (wrong_ellipsis row.body)

@@ -1,5 +1,5 @@
 -- What each row of the check asks at a place. Where a row doesn't speak of a place, or the world doesn't have the place, nothing is asked there.
-use Rattle.std.specs.Prelude.{◌≡◌, ℕ, ◌==◌, ◌&&◌, Bool, true, not, List, length, take, Option, Some, None, slice_get, IfSome}
+use Rattle.std.specs.Prelude.{◌≡◌, ℕ, ◌==◌, ◌&&◌, Bool, true, not, List, length, take, Option, slice_get, IfSome}
 use Rattle.std.specs.List.{list_any}
 use Rattle.types.specs.Orders.{args_eq, ty_eq}
 use Rattle.types.specs.declared.ids.AliasId.{AliasId}
@@ -16,9 +16,9 @@ use Rattle.check_names.specs.Known.{is_nameable}
 use Rattle.check_items.specs.Agree.{IsListedRight, has_all_params, is_closure_row}
 use Rattle.check_items.specs.Closed.{is_const_impl_closed, is_impl_closed, is_normal_closed}
 use Rattle.check_items.specs.Names.{is_closure_named, is_const_impl_named, is_const_named, is_const_param_named, is_enum_named, is_function_known, is_function_named, is_impl_named, is_layout_named, is_normal_named, is_static_named, is_struct_named, is_variant_named}
-use Rattle.check_ids.specs.Inferred.{is_inferred_right}
-use Rattle.check_ids.specs.Nodes.{is_binding_in_range, is_expr_in_range, is_pat_in_range}
-use Rattle.check_ids.specs.Parts.{are_roots_known}
+use Rattle.check_ids.specs.Parts.{if_there, is_part_right}
+use Rattle.check_ids.specs.declared.part.BodyPart.{BodyPart}
+use Rattle.check_ids.specs.declared.part.BodyPart.TheVariants as part
 use Rattle.check_trees.specs.Ellipsis.{is_ellipsis_inside}
 use Rattle.check_trees.specs.Jumps.{IsJumpInside}
 use Rattle.check_trees.specs.Tree.{IsExprInOrder, IsPatInOrder}
@@ -34,12 +34,7 @@ use Rattle.world_check.specs.declared.place.Place.TheVariants.{Table, Row, Nodes
 use Rattle.world_check.specs.declared.place.TableName.{TableName}
 use Rattle.world_check.specs.declared.place.TableName.TheVariants.{Crates, Functions, Consts, Statics, Structs, Unions, Enums, Variants, Traits, Aliases, TypeParams, ConstParams, Closures, Bodies, Layouts, Normals, Impls, ConstImpls}
 
--- an element passes a test, if it is there
-abbrev pub if_there : {X : Type 0} → (X → Bool) → Option X → Bool
-if_there test None = true
-if_there test (Some x) = test x
-
--- the element at a place of a list passes a test of the place and of itself, if it is there
+-- the element at an index passes a test of the index and of itself, if it is there
 abbrev pub if_at : {X : Type 0} → (ℕ → X → Bool) → List X → ℕ → Bool
 if_at test xs i = if_there (test i) (slice_get xs i)
 
@@ -47,10 +42,10 @@ if_at test xs i = if_there (test i) (slice_get xs i)
 abbrev pub none_before : {X : Type 0} → (X → Bool) → List X → ℕ → Bool
 none_before test rows i = not (list_any test (take i rows))
 
--- Ids are in range, those of fields too; lists whose places an id or a number of 32 bits names are short enough; each node has one type; keys are distinct; and
+-- C1: ids are in range, those of fields too; lists whose places an id or a number of 32 bits names are short enough; each node has one type; keys are distinct; and
 -- `char` literals are Unicode scalar values.
 
--- a table whose rows are named by ids has fewer than 2^32 rows
+-- a table whose rows are named by ids, or by the indices of bodies, has fewer than 2^32 rows; of any other nothing is asked
 abbrev pub is_table_nameable : HirDatabase → TableName → Bool
 is_table_nameable world Crates = is_nameable (length world.crates)
 is_table_nameable world Functions = is_nameable (length world.functions)
@@ -84,8 +79,9 @@ has_new_function world i row = none_before (λ (other : ImplRow). row.function.0
 abbrev pub has_new_const : HirDatabase → ℕ → ConstImplRow → Bool
 has_new_const world i row = none_before (λ (other : ConstImplRow). row.konst.0 == other.konst.0 && args_eq row.args other.args) world.const_impls i
 
-abbrev pub is_typed_body_known : HirDatabase → BodyRow → Bool
-is_typed_body_known world row = are_roots_known row.body && is_inferred_right world row.body row.infer
+-- what is asked of a part of the body in row `b`, if it is there
+abbrev pub is_part_known : HirDatabase → ℕ → BodyPart → Bool
+is_part_known world b part = if_there (λ (row : BodyRow). is_part_right world row.body row.infer part) (slice_get world.bodies b)
 
 abbrev pub is_row_known : HirDatabase → TableName → ℕ → Bool
 is_row_known world Functions i = if_there (is_function_named world) (slice_get world.functions i)
@@ -97,27 +93,28 @@ is_row_known world Enums i = if_there (is_enum_named world) (slice_get world.enu
 is_row_known world Variants i = if_there (is_variant_named world) (slice_get world.variants i)
 is_row_known world ConstParams i = if_there (is_const_param_named world) (slice_get world.const_params i)
 is_row_known world Closures i = if_there (is_closure_named world) (slice_get world.closures i)
-is_row_known world Bodies b = if_there (is_typed_body_known world) (slice_get world.bodies b)
+is_row_known world Bodies b = is_part_known world b part.Rest
 is_row_known world Layouts i = if_at (λ j row. is_layout_named world row && has_new_type world j row) world.layouts i
 is_row_known world Normals i = if_at (λ j row. is_normal_named world row && has_new_alias world j row) world.normals i
 is_row_known world Impls i = if_at (λ j row. is_impl_named world row && has_new_function world j row) world.impls i
 is_row_known world ConstImpls i = if_at (λ j row. is_const_impl_named world row && has_new_const world j row) world.const_impls i
 is_row_known world _ i = true
 
--- a list of a body's nodes, or of its labels, has fewer than 2^32 entries
-abbrev pub is_list_nameable : NodeKind → Body → Bool
-is_list_nameable Exprs body = is_nameable (length body.exprs)
-is_list_nameable Pats body = is_nameable (length body.pats)
-is_list_nameable Bindings body = is_nameable (length body.bindings)
-is_list_nameable Labels body = is_nameable (length body.labels)
+-- a list of a body's nodes, or of its labels
+abbrev pub is_list_known : HirDatabase → ℕ → NodeKind → Bool
+is_list_known world b Exprs = is_part_known world b part.Exprs
+is_list_known world b Pats = is_part_known world b part.Pats
+is_list_known world b Bindings = is_part_known world b part.Bindings
+is_list_known world b Labels = is_part_known world b part.Labels
 
-abbrev pub is_node_known : NodeKind → ℕ → Body → Bool
-is_node_known Exprs e body = if_there (is_expr_in_range body) (slice_get body.exprs e)
-is_node_known Pats p body = if_there (is_pat_in_range body) (slice_get body.pats p)
-is_node_known Bindings i body = if_there (is_binding_in_range body) (slice_get body.bindings i)
-is_node_known Labels i body = true
+-- a node of a body; a label is asked nothing
+abbrev pub is_node_known : HirDatabase → ℕ → NodeKind → ℕ → Bool
+is_node_known world b Exprs e = is_part_known world b (part.Expr e)
+is_node_known world b Pats p = is_part_known world b (part.Pat p)
+is_node_known world b Bindings i = is_part_known world b (part.Binding i)
+is_node_known world b Labels i = true
 
--- the function that the world names
+-- the lang function of the world with this name, if it has one
 abbrev pub named_function : HirDatabase → NamedFunction → Option FunctionId
 named_function world Drop = world.drop_fn
 named_function world Deref = world.deref_fn
@@ -126,56 +123,53 @@ named_function world Call = world.call_fn
 named_function world CallMut = world.call_mut_fn
 named_function world CallOnce = world.call_once_fn
 
--- a test of the body in row `b`, if it is there
-abbrev pub in_body : HirDatabase → ℕ → (Body → Bool) → Bool
-in_body world b test = if_there (λ (row : BodyRow). test row.body) (slice_get world.bodies b)
-
 abbrev pub has_known_ids : HirDatabase → Place → Bool
 has_known_ids world (Table table) = is_table_nameable world table
 has_known_ids world (Row table i) = is_row_known world table i
-has_known_ids world (Nodes b kind) = in_body world b (is_list_nameable kind)
-has_known_ids world (Node b kind i) = in_body world b (is_node_known kind i)
+has_known_ids world (Nodes b kind) = is_list_known world b kind
+has_known_ids world (Node b kind i) = is_node_known world b kind i
 has_known_ids world (Function name) = is_function_known world (named_function world name)
 
 -- a fact of the body in row `b`, if it is there
 abbrev pub InBody : HirDatabase → ℕ → (Body → Type 0) → Type 0
 InBody world b fact = IfSome (slice_get world.bodies b) (λ (row : BodyRow). fact row.body)
 
--- Bodies are trees: a child has a lower id than its parent where both are expressions or both are patterns, an expression inside a pattern has a lower id than the
--- expression that holds the pattern, each node but the root and the parameters occurs at most once as a child, and no path of more than 400 steps leads down.
+-- C2: bodies are trees: a child has a lower id than its parent where both are expressions or both are patterns, an expression inside a pattern has a lower id than the
+-- expression that holds the pattern, each node but the root and the parameters occurs at most once as a child, and no path of more than 400 steps leads down from any node.
 abbrev pub IsInOrder : HirDatabase → Place → Type 0
 IsInOrder world (Node b Exprs e) = InBody world b (λ body. IfSome (slice_get body.exprs e) (IsExprInOrder body e))
 IsInOrder world (Node b Pats p) = InBody world b (λ body. IfSome (slice_get body.pats p) (IsPatInOrder body p))
 IsInOrder world _ = Unit {0}
 
--- A jump's label is that of an enclosing loop or block.
+-- C3: a jump's label is that of an enclosing loop or block.
 abbrev pub HasEnclosingLabel : HirDatabase → Place → Type 0
 HasEnclosingLabel world (Node b Exprs e) = InBody world b (λ body. IfSome (slice_get body.exprs e) (IsJumpInside body e))
 HasEnclosingLabel world _ = Unit {0}
 
--- Normalized types, and the arguments of resolved impl items, have no alias and no generic parameter in them.
+-- C4: normalized types, and the arguments of resolved impl items, have no alias and no generic parameter in them.
 abbrev pub is_resolved : HirDatabase → Place → Bool
 is_resolved world (Row Normals i) = if_there is_normal_closed (slice_get world.normals i)
 is_resolved world (Row Impls i) = if_there is_impl_closed (slice_get world.impls i)
 is_resolved world (Row ConstImpls i) = if_there is_const_impl_closed (slice_get world.const_impls i)
 is_resolved world _ = true
 
--- Layouts follow the rules of all 64-bit targets. The types of parts have theirs in the rows above.
+-- C5: layouts follow the rules of all 64-bit targets. The types of parts have their layouts in rows above.
 abbrev pub HasRightLayout : HirDatabase → Place → Type 0
 HasRightLayout world (Row Layouts i) = IsRowLaidOut world i
 HasRightLayout world _ = Unit {0}
 
--- Tags fit their enums.
+-- C6: tags fit their enums.
 abbrev pub HasFittingTag : HirDatabase → Place → Type 0
 HasFittingTag world (Row Layouts i) = IfSome (slice_get world.layouts i) (λ (row : Ty × Layout). HasRightTag world row.0 row.1)
 HasFittingTag world _ = Unit {0}
 
--- Functions agree with their bodies, variants with the lists of enums, closures with their expressions, and each `..` stands among the parts of its pattern or behind the last.
+-- C7: functions have as many parameters as their bodies, and closures as their expressions, variants stand just where their rows say in the lists of enums, and each
+-- `..` stands among the parts of its pattern or behind the last.
 abbrev pub Agrees : HirDatabase → Place → Type 0
 Agrees world (Row Functions i) = if_there (has_all_params world) (slice_get world.functions i) ≡ true
 Agrees world (Row Variants i) = IfSome (slice_get world.variants i) (IsListedRight world i)
 Agrees world (Row Closures i) = if_there (is_closure_row world) (slice_get world.closures i) ≡ true
-Agrees world (Node b Pats p) = in_body world b (λ body. if_there is_ellipsis_inside (slice_get body.pats p)) ≡ true
+Agrees world (Node b Pats p) = InBody world b (λ body. IfSome (slice_get body.pats p) (λ pattern. is_ellipsis_inside pattern ≡ true))
 Agrees world _ = Unit {0}
 
 -- what a row of the check asks at a place

@@ -1,7 +1,8 @@
--- The rows of the check, and the faults.
-use Rattle.std.specs.Prelude.{◌≡◌, ℕ, ◌<◌, List, [], ◌∷◌, Option, None, Some, slice_get}
+-- The rows C1 to C7 of the check, and its faults.
+use Rattle.std.specs.Prelude.{◌≡◌, ℕ, List, [], ◌∷◌, Option}
 use Rattle.world.specs.Checked.{IsChecked}
 use Rattle.world.specs.declared.database.HirDatabase.{HirDatabase}
+use Rattle.check_trees.specs.First.{FailsFirst, FindsFailing}
 use Rattle.world_check.specs.Places.{place_text}
 use Rattle.world_check.specs.Meets.{Meets}
 use Rattle.world_check.specs.WorldPlaces.{places}
@@ -15,18 +16,6 @@ use Rattle.world_check.specs.declared.place.Place.{Place}
 pub record Holds (world : HirDatabase) : Type 0 where
   pub met : (row : CheckRow) (place : Place) → Meets row world place
 
--- a place is the first of a list that lacks a property
-pub record FailsFirst (property : Place → Type 0) (list : List Place) (place : Place) : Type 0 where
-  pub index : ℕ
-  pub at : slice_get list index ≡ Some place
-  pub fails : property place → ⊥
-  pub before : (j : ℕ) (other : Place) → j < index → slice_get list j ≡ Some other → property other
-
--- what a search in a list finds: the first place that lacks a property, or nothing, where each has it
-abbrev pub FindsFailing : (Place → Type 0) → List Place → Option Place → Type 0
-FindsFailing property list None = (i : ℕ) (place : Place) → slice_get list i ≡ Some place → property place
-FindsFailing property list (Some place) = FailsFirst property list place
-
 -- the search of the whole world for the first place that doesn't meet a row
 abbrev pub FindsUnmet : CheckRow → HirDatabase → Option Place → Type 0
 FindsUnmet row world found = FindsFailing (Meets row world) (places world) found
@@ -36,14 +25,12 @@ all_rows = C1 ∷ C2 ∷ C3 ∷ C4 ∷ C5 ∷ C6 ∷ C7 ∷ []
 
 -- a row is the first that some place doesn't meet, and the text names the first such place in the order of the check
 pub record IsFirstFailure (world : HirDatabase) (row : CheckRow) (text : List ℕ) : Type 0 where
-  pub index : ℕ
   pub place : Place
-  pub at : slice_get all_rows index ≡ Some row
   pub named : text ≡ place_text place
-  pub first : FailsFirst (Meets row world) (places world) place
-  pub before : (j : ℕ) (other : CheckRow) → j < index → slice_get all_rows j ≡ Some other → (anywhere : Place) → Meets other world anywhere
+  pub row_fails : FailsFirst (λ other. (anywhere : Place) → Meets other world anywhere) all_rows row
+  pub place_fails : FailsFirst (Meets row world) (places world) place
 
--- a fault names such a row and such a place, or says that memory ran out, which may be in any world
+-- a fault names the first row that fails and the first place that fails it, or says that memory ran out, which may be in any world
 abbrev pub IsRefusal : HirDatabase → CheckFault → Type 0
 IsRefusal world (InvalidWorld invalid) = IsFirstFailure world invalid.row invalid.place
 IsRefusal world NoMemory = Unit {0}

@@ -16,13 +16,11 @@ use Rattle.world.specs.declared.items.FunctionRow.{FunctionRow}
 use Rattle.world.specs.declared.items.StaticRow.{StaticRow}
 use Rattle.world.specs.declared.pat.Pat.{Pat}
 use Rattle.check_names.specs.Known.{are_args_settled}
-use Rattle.check_ids.specs.Inferred.{is_inferred_right}
-use Rattle.check_ids.specs.Parts.{are_roots_known}
+use Rattle.check_ids.specs.Parts.{is_part_right}
+use Rattle.check_ids.specs.declared.part.BodyPart.{BodyPart}
 use Rattle.check_trees.specs.Ellipsis.{is_ellipsis_inside}
 use Rattle.check_trees.specs.Jumps.{IsJumpInside}
 use Rattle.check_trees.specs.Tree.{IsExprInOrder, IsPatInOrder}
-use Rattle.world_check.specs.Meets.{is_list_nameable, is_node_known}
-use Rattle.world_check.specs.declared.place.NodeKind.{NodeKind}
 
 -- a type for a type parameter, or a constant for a const parameter
 abbrev pub is_of_sort : GenericParamId → GenericArg → Bool
@@ -67,9 +65,7 @@ is_valid world def args = fits world def args && are_args_settled args
 -- A typed body is right by itself: its lists are short enough and all ids in it are in range, its `char` literals are Unicode scalar values, each node has a type,
 -- its nodes are in order, its jumps name enclosing labels, and each `..` stands among the parts of its pattern or behind the last.
 pub record IsBodyRight (world : HirDatabase) (body : Body) (infer : InferenceResult) : Type 0 where
-  pub lists : (kind : NodeKind) → is_list_nameable kind body ≡ true
-  pub nodes : (kind : NodeKind) (i : ℕ) → is_node_known kind i body ≡ true
-  pub inferred : (are_roots_known body && is_inferred_right world body infer) ≡ true
+  pub parts : (part : BodyPart) → is_part_right world body infer part ≡ true
   pub exprs : (e : ℕ) (node : Expr) → slice_get body.exprs e ≡ Some node → IsExprInOrder body e node
   pub pats : (p : ℕ) (node : Pat) → slice_get body.pats p ≡ Some node → IsPatInOrder body p node
   pub jumps : (e : ℕ) (node : Expr) → slice_get body.exprs e ≡ Some node → IsJumpInside body e node

@@ -1,42 +1,41 @@
 -- All places of a world, in the order in which the check goes through them.
-use Rattle.std.specs.Prelude.{ℕ, ◌+◌, List, [], ◌∷◌, ◌++◌}
+use Rattle.std.specs.Prelude.{ℕ, ◌+◌, List, [], ◌∷◌, ◌++◌, map}
 use Rattle.world.specs.declared.body.Body.{Body}
 use Rattle.world.specs.declared.database.BodyRow.{BodyRow}
 use Rattle.world.specs.declared.database.HirDatabase.{HirDatabase}
+use Rattle.check_ids.specs.Parts.{parts_of}
 use Rattle.check_ids.specs.declared.part.BodyPart.{BodyPart}
 use Rattle.check_ids.specs.declared.part.BodyPart.TheVariants as part
+use Rattle.check_trees.specs.First.{numbered}
 use Rattle.check_trees.specs.declared.node.BodyNode.{BodyNode}
 use Rattle.check_trees.specs.declared.node.BodyNode.TheVariants as node
 use Rattle.world_check.specs.declared.place.NamedFunction.TheVariants as function
-use Rattle.world_check.specs.declared.place.NodeKind.{NodeKind}
 use Rattle.world_check.specs.declared.place.NodeKind.TheVariants.{Exprs, Pats, Bindings, Labels}
 use Rattle.world_check.specs.declared.place.Place.{Place}
 use Rattle.world_check.specs.declared.place.Place.TheVariants.{Table, Row, Nodes, Node, Function}
 use Rattle.world_check.specs.declared.place.TableName.{TableName}
 use Rattle.world_check.specs.declared.place.TableName.TheVariants.{Crates, Functions, Consts, Statics, Structs, Unions, Enums, Variants, Traits, Aliases, TypeParams, ConstParams, Closures, Bodies, Layouts, Normals, Impls, ConstImpls}
 
--- a place for each element of a list, with indices from `i` on
-abbrev pub numbered : {X : Type 0} → (ℕ → Place) → ℕ → List X → List Place
-numbered at i [] = []
-numbered at i (x ∷ xs) = at i ∷ numbered at (i + 1) xs
-
--- a table, then its rows
+-- the place of a table, then those of its rows
 abbrev pub of_table : {X : Type 0} → TableName → List X → List Place
 of_table table rows = Table table ∷ numbered (Row table) 0 rows
 
--- a list of a body's nodes, then the nodes
-abbrev pub of_nodes : {X : Type 0} → ℕ → NodeKind → List X → List Place
-of_nodes b kind nodes = Nodes b kind ∷ numbered (Node b kind) 0 nodes
+-- the place of a part of body `b`
+abbrev pub part_place : ℕ → BodyPart → Place
+part_place b part.Exprs = Nodes b Exprs
+part_place b (part.Expr i) = Node b Exprs i
+part_place b part.Pats = Nodes b Pats
+part_place b (part.Pat i) = Node b Pats i
+part_place b part.Bindings = Nodes b Bindings
+part_place b (part.Binding i) = Node b Bindings i
+part_place b part.Labels = Nodes b Labels
+part_place b part.Rest = Row Bodies b
 
--- the lists of a body, each with its nodes, then the body's row, which stands for all else in it; labels have no places of their own
+-- the places of a body's parts: the lists, each with its nodes, then the body's row, which stands for all else in it; labels have no places of their own
 abbrev pub of_body : ℕ → Body → List Place
-of_body b body =
-    of_nodes b Exprs body.exprs
-    ++ (of_nodes b Pats body.pats
-    ++ (of_nodes b Bindings body.bindings
-    ++ (Nodes b Labels ∷ Row Bodies b ∷ [])))
+of_body b body = map (part_place b) (parts_of body)
 
--- the same for each body, with places of bodies from `b` on
+-- the places of several bodies, of which the first is body `b`
 abbrev pub of_bodies : ℕ → List BodyRow → List Place
 of_bodies b [] = []
 of_bodies b (row ∷ rows) = of_body b row.body ++ of_bodies (b + 1) rows
@@ -72,7 +71,7 @@ of_keyed_rows world =
     ++ (of_table Impls world.impls
     ++ of_table ConstImpls world.const_impls))
 
--- the functions that the world names itself
+-- the lang functions, from `drop_fn` to `call_once_fn`
 abbrev pub named_functions : List Place
 named_functions =
     Function function.Drop
@@ -92,17 +91,6 @@ places world =
     ++ (of_code world
     ++ (of_keyed_rows world
     ++ named_functions))))
-
--- the place of a part of body `b`
-abbrev pub part_place : ℕ → BodyPart → Place
-part_place b part.Exprs = Nodes b Exprs
-part_place b (part.Expr i) = Node b Exprs i
-part_place b part.Pats = Nodes b Pats
-part_place b (part.Pat i) = Node b Pats i
-part_place b part.Bindings = Nodes b Bindings
-part_place b (part.Binding i) = Node b Bindings i
-part_place b part.Labels = Nodes b Labels
-part_place b part.Rest = Row Bodies b
 
 -- the place of a node of body `b`
 abbrev pub node_place : ℕ → BodyNode → Place

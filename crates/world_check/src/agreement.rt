@@ -54,7 +54,7 @@ pub(crate) fn wrong_resolution(db: &HirDatabase) -> Option<Place>
     row_place(TableName::Normals, types).or(second)
 }
 
-/// The place of the first layout that breaks a rule of all targets.
+/// The place of the first layout that breaks a rule of all 64-bit targets.
 pub(crate) fn wrong_layout(alloc: Global, db: &HirDatabase) -> Result<Option<Place>, NoMemory>
     ensures { IfOk result (λ found. FindsUnmet CheckRow.C5 db.now found) }
 {

@@ -16,7 +16,7 @@ pub enum CheckRow {
     /// Normalized types, and the arguments of `impls` and `const_impls`, have no alias and no generic
     /// parameter in them.
     C4,
-    /// Layouts follow the rules of all targets.
+    /// Layouts follow the rules of all 64-bit targets.
     C5,
     /// Tags fit their enums.
     C6,

@@ -3,7 +3,7 @@ ghost use Rattle.std.specs.Prelude.{◌≡◌, Some, Decides, slice_get};
 ghost use Rattle.std.specs.Option.{option_map};
 ghost use Rattle.world.specs.Failing.{first_failing};
 ghost use Rattle.world_check.specs.Meets.{Meets, has_new_alias, has_new_const, has_new_function, has_new_type};
-ghost use Rattle.world_check.specs.Rows.{FindsFailing};
+ghost use Rattle.check_trees.specs.First.{FindsFailing};
 ghost use Rattle.world_check.specs.WorldPlaces.{of_keyed_rows};
 ghost use Rattle.world_check.specs.declared.place.Place.TheVariants.{Row};
 

@@ -4,7 +4,7 @@ ghost use Rattle.std.specs.List.{position};
 ghost use Rattle.std.specs.Option.{option_map};
 ghost use Rattle.check_names.specs.Known.{is_nameable};
 ghost use Rattle.world_check.specs.Meets.{Meets};
-ghost use Rattle.world_check.specs.Rows.{FindsFailing};
+ghost use Rattle.check_trees.specs.First.{FindsFailing};
 ghost use Rattle.world_check.specs.WorldPlaces.{of_adts, of_items, of_names, of_table};
 ghost use Rattle.world_check.specs.declared.place.Place.TheVariants.{Row, Table};
 ghost use Rattle.world_check.specs.declared.place.TableName.TheVariants.{Closures};

@@ -1,11 +1,10 @@
 //! All tables: ids are in range, lists are short enough for ids of 32 bits, and keys are distinct.
-ghost use Rattle.std.specs.Prelude.{◌≡◌, if◌then◌else◌, [], ◌∷◌, Some, None, IfOk};
-ghost use Rattle.std.specs.Option.{option_map};
-ghost use Rattle.check_ids.specs.Parts.{wrong_part};
+ghost use Rattle.std.specs.Prelude.{◌≡◌, if◌then◌else◌, [], ◌∷◌, Some, None, slice_get, IfOk};
 ghost use Rattle.check_items.specs.Names.{is_function_known};
 ghost use Rattle.world_check.specs.Meets.{Meets};
-ghost use Rattle.world_check.specs.Rows.{FindsFailing, FindsUnmet};
-ghost use Rattle.world_check.specs.WorldPlaces.{of_bodies, of_code, part_place};
+ghost use Rattle.world_check.specs.Rows.{FindsUnmet};
+ghost use Rattle.check_trees.specs.First.{FindsFailing};
+ghost use Rattle.world_check.specs.WorldPlaces.{of_bodies, of_body, of_code, part_place};
 ghost use Rattle.world_check.specs.declared.place.NamedFunction.TheVariants.{Drop, Deref, DerefMut, Call, CallMut, CallOnce};
 ghost use Rattle.world_check.specs.declared.place.Place.TheVariants.{Function};
 
@@ -34,14 +33,15 @@ fn part_place(b: u64, part: BodyPart) -> Place
     }
 }
 
-/// The place of the first wrong part of body `b`, as one that has an id out of range.
+/// The place of the first part of body `b` that has an id out of range, is a list that is too long, or has
+/// not one type for each node.
 fn wrong_part_in(
     alloc: Global,
     db: &HirDatabase,
     b: u64,
     row: &BodyRow,
 ) -> Result<Option<Place>, NoMemory>
-    ensures { IfOk result (λ found. found ≡ option_map (part_place b) (wrong_part db.now row.now.body row.now.infer)) }
+    ensures { IfOk result (λ found. slice_get db.now.bodies b ≡ Some row.now → FindsFailing (Meets CheckRow.C1 db.now) (of_body b row.now.body) found) }
 {
     match wrong_part(alloc, db, &row.body, &row.infer)? {
         Some(part) => Ok(Some(part_place(b, part))),

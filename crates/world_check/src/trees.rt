@@ -1,13 +1,10 @@
 //! Tests of all bodies: they are trees, jumps name enclosing labels, and `..` stands within its pattern.
 ghost use Rattle.std.specs.Prelude.{◌≡◌, Some, slice_get, IfOk};
-ghost use Rattle.std.specs.Option.{option_map};
-ghost use Rattle.check_trees.specs.Ellipsis.{wrong_ellipsis};
 ghost use Rattle.world.specs.declared.database.HirDatabase.{HirDatabase as World};
 ghost use Rattle.world_check.specs.Meets.{Meets};
-ghost use Rattle.world_check.specs.Rows.{FindsFailing, FindsUnmet};
+ghost use Rattle.world_check.specs.Rows.{FindsUnmet};
+ghost use Rattle.check_trees.specs.First.{FindsFailing};
 ghost use Rattle.world_check.specs.WorldPlaces.{node_place, of_bodies, of_body};
-ghost use Rattle.world_check.specs.declared.place.NodeKind.TheVariants.{Pats};
-ghost use Rattle.world_check.specs.declared.place.Place.TheVariants.{Node};
 
 use crate::{CheckRow, NodeKind, Place};
 use check_trees::{BodyNode, wrong_ellipsis, wrong_jump, wrong_node};
@@ -72,7 +69,7 @@ pub(crate) fn wrong_label(alloc: Global, db: &HirDatabase) -> Result<Option<Plac
 
 /// The place of the first pattern of body `b` whose `..` stands past the end of its subpatterns.
 fn wrong_ellipsis_in(b: u64, row: &BodyRow) -> Option<Place>
-    ensures { result ≡ option_map (Node b Pats) (wrong_ellipsis row.now.body) }
+    ensures { (world : World) → slice_get world.bodies b ≡ Some row.now → FindsFailing (Meets CheckRow.C7 world) (of_body b row.now.body) result }
 {
     match wrong_ellipsis(&row.body) {
         Some(i) => Some(Place::Node(b, NodeKind::Pats, i)),

@@ -4,7 +4,7 @@ use Rattle.world_check.specs.Meets.{Meets}
 use Rattle.world_check.specs.WorldPlaces.{places}
 use Rattle.world_check.specs.declared.fault.CheckRow.TheVariants.{C7}
 use Rattle.world_check.specs.declared.place.TableName.TheVariants.{Functions, Closures}
-use Rattle.world_check.proofs.First.{found_is}
+use Rattle.check_trees.proofs.First.{found_is}
 use Rattle.world_check.proofs.FoundPlaces.{agreement_found}
 use Rattle.world_check.proofs.Segments.{or_both}
 use Rattle.world_check.proofs.Walks.{row_found, wrong_row}

@@ -1,7 +1,7 @@
 use Rattle.world_check.specs.Meets.{Meets}
 use Rattle.world_check.specs.WorldPlaces.{places}
 use Rattle.world_check.specs.declared.fault.CheckRow.TheVariants.{C5}
-use Rattle.world_check.proofs.First.{found_is}
+use Rattle.check_trees.proofs.First.{found_is}
 use Rattle.world_check.proofs.FoundPlaces.{layout_found}
 use Rattle.world_check.proofs.agreement.wrong_layout.Goals as goal
 

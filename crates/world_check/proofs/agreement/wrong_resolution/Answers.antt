@@ -6,7 +6,7 @@ use Rattle.world_check.specs.WorldPlaces.{places}
 use Rattle.world_check.specs.declared.fault.CheckRow.TheVariants.{C4}
 use Rattle.world_check.specs.declared.place.TableName.TheVariants.{Normals, Impls, ConstImpls}
 use Rattle.world_check.proofs.FoundPlaces.{resolution_found}
-use Rattle.world_check.proofs.First.{found_is}
+use Rattle.check_trees.proofs.First.{found_is}
 use Rattle.world_check.proofs.Segments.{or_both}
 use Rattle.world_check.proofs.Walks.{row_found, wrong_resolution, wrong_row}
 use Rattle.world_check.proofs.agreement.wrong_resolution.Goals as goal

@@ -3,7 +3,7 @@ use Rattle.world_check.specs.Meets.{Meets}
 use Rattle.world_check.specs.WorldPlaces.{places}
 use Rattle.world_check.specs.declared.fault.CheckRow.TheVariants.{C6}
 use Rattle.world_check.specs.declared.place.TableName.TheVariants.{Layouts}
-use Rattle.world_check.proofs.First.{found_is}
+use Rattle.check_trees.proofs.First.{found_is}
 use Rattle.world_check.proofs.FoundPlaces.{tag_found}
 use Rattle.world_check.proofs.Walks.{row_found, wrong_tag}
 use Rattle.world_check.proofs.agreement.wrong_tag.Goals as goal

@@ -2,7 +2,7 @@ use Rattle.std.proofs.Common.{◌∙◌}
 use Rattle.world_check.specs.Meets.{Meets}
 use Rattle.world_check.specs.WorldPlaces.{of_adts}
 use Rattle.world_check.specs.declared.fault.CheckRow.TheVariants.{C1}
-use Rattle.world_check.proofs.First.{found_is}
+use Rattle.check_trees.proofs.First.{found_is}
 use Rattle.world_check.proofs.FoundIds.{adts_found}
 use Rattle.world_check.proofs.Segments.{or_both}
 use Rattle.world_check.proofs.Walks.{wrong_adt}

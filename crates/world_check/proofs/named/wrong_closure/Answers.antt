@@ -2,7 +2,7 @@ use Rattle.world_check.specs.Meets.{Meets}
 use Rattle.world_check.specs.WorldPlaces.{of_table}
 use Rattle.world_check.specs.declared.fault.CheckRow.TheVariants.{C1}
 use Rattle.world_check.specs.declared.place.TableName.TheVariants.{Closures}
-use Rattle.world_check.proofs.First.{found_is}
+use Rattle.check_trees.proofs.First.{found_is}
 use Rattle.world_check.proofs.FoundIds.{closures_found}
 use Rattle.world_check.proofs.named.wrong_closure.Goals as goal
 

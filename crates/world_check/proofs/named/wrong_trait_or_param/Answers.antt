@@ -3,7 +3,7 @@ use Rattle.world_check.specs.Meets.{Meets}
 use Rattle.world_check.specs.WorldPlaces.{of_names}
 use Rattle.world_check.specs.declared.fault.CheckRow.TheVariants.{C1}
 use Rattle.world_check.specs.declared.place.TableName.TheVariants.{Traits, Aliases, TypeParams}
-use Rattle.world_check.proofs.First.{found_is}
+use Rattle.check_trees.proofs.First.{found_is}
 use Rattle.world_check.proofs.FoundIds.{names_found}
 use Rattle.world_check.proofs.Segments.{or_both}
 use Rattle.world_check.proofs.Walks.{in_table, wrong_trait_or_param}

@@ -4,7 +4,7 @@ use Rattle.world_check.specs.Meets.{Meets}
 use Rattle.world_check.specs.WorldPlaces.{of_code}
 use Rattle.world_check.specs.declared.fault.CheckRow.TheVariants.{C1}
 use Rattle.world_check.specs.declared.place.TableName.TheVariants.{Bodies}
-use Rattle.world_check.proofs.First.{found_is}
+use Rattle.check_trees.proofs.First.{found_is}
 use Rattle.world_check.proofs.FoundIds.{code_found}
 use Rattle.world_check.proofs.Walks.{in_table_is}
 use Rattle.world_check.proofs.ranges.wrong_body.Goals as goal

@@ -3,7 +3,7 @@ use Rattle.std.specs.Option.{option_or}
 use Rattle.world_check.specs.Meets.{Meets}
 use Rattle.world_check.specs.WorldPlaces.{places}
 use Rattle.world_check.specs.declared.fault.CheckRow.TheVariants.{C1}
-use Rattle.world_check.proofs.First.{found_is}
+use Rattle.check_trees.proofs.First.{found_is}
 use Rattle.world_check.proofs.FoundIds.{id_found}
 use Rattle.world_check.proofs.ranges.wrong_id.Goals as goal
 

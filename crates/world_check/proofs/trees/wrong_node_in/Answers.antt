@@ -3,7 +3,7 @@ use Rattle.check_trees.specs.Tree.{FindsWrongNode}
 use Rattle.world_check.specs.Meets.{Meets}
 use Rattle.world_check.specs.WorldPlaces.{node_place, of_body}
 use Rattle.world_check.specs.declared.fault.CheckRow.TheVariants.{C2}
-use Rattle.world_check.proofs.First.{found_is}
+use Rattle.check_trees.proofs.First.{found_is}
 use Rattle.world_check.proofs.FoundTrees.{tree_in_body}
 use Rattle.world_check.proofs.trees.wrong_node_in.Goals as goal
 

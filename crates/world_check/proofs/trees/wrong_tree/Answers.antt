@@ -1,10 +1,10 @@
 use Rattle.std.proofs.Common.{None, Some, refl, sym, subst}
 use Rattle.world_check.specs.Meets.{Meets}
-use Rattle.world_check.specs.Rows.{FindsFailing}
+use Rattle.check_trees.specs.First.{FindsFailing}
 use Rattle.world_check.specs.WorldPlaces.{of_bodies, of_body}
 use Rattle.world_check.specs.declared.fault.CheckRow.TheVariants.{C2}
 use Rattle.world_check.proofs.Bodies.{found_in_body, passed_bodies, passes_body, row_at}
-use Rattle.world_check.proofs.First.{found_is}
+use Rattle.check_trees.proofs.First.{found_is}
 use Rattle.world_check.proofs.FoundPlaces.{tree_found}
 use Rattle.world_check.proofs.trees.wrong_tree.Goals as goal
 
