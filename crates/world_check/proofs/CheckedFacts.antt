@@ -90,7 +90,7 @@ unfolding StandsInside
 held_below body e p pat there below =
     all_below e (inner_exprs_of pat) (λ inner has. below inner (subst (λ ids. Has ids inner) (sym (ap (λ found. option_map_or inner_exprs_of found []) there)) has))
 
-checked_body : (world : HirDatabase) (row : BodyRow) → is_part_right world row.body row.infer part.Rest ≡ true → ((e : ℕ) (node : Expr) → slice_get row.body.exprs e ≡ Some node → IsExprInOrder row.body e node) → IsCheckedBody row.body row.infer
+pub checked_body : (world : HirDatabase) (row : BodyRow) → is_part_right world row.body row.infer part.Rest ≡ true → ((e : ℕ) (node : Expr) → slice_get row.body.exprs e ≡ Some node → IsExprInOrder row.body e node) → IsCheckedBody row.body row.infer
 checked_body world row known ordered =
     let body = row.body in
     let parts = both (are_roots_known body) (is_inferred_right world body row.infer) known in
