@@ -54,20 +54,11 @@ module _ (world : HirDatabase) where
   misplaced_wrong v e i listed elsewhere right =
       elsewhere (there _ (slice_get world.variants v) (λ row at. (of_there (IsListedRight world v) (slice_get world.variants v) row at right e i).0 listed))
 
-  pub unlisted_wrong : (v : ℕ) (row : VariantRow) → slice_get world.variants v ≡ Some row → (listed_at world row.parent.0 row.index ≡ Some v → ⊥) → IsRowListedRight world v → ⊥
-  unlisted_wrong v row at unlisted right = unlisted ((of_there (IsListedRight world v) (slice_get world.variants v) row at right row.parent.0 row.index).1 (refl, refl))
-
   pub listed_right : (v : ℕ) (row : VariantRow) → slice_get world.variants v ≡ Some row → listed_at world row.parent.0 row.index ≡ Some v → ((e i : ℕ) → listed_at world e i ≡ Some v → HasPlace world v e i) → IsListedRight world v row
   listed_right v row at listed own e i = (
     λ found. of_there (λ row. (e ≡ row.parent.0) × (i ≡ row.index)) (slice_get world.variants v) row at (own e i found),
     λ same. ap (λ p. listed_at world p i) same.0 ∙ ap (listed_at world row.parent.0) same.1 ∙ listed,
   )
-
-  pub none_marked : (marks : List Bool) → ((v : ℕ) → get_or marks v false ≡ false) → AreMarks world 0 0 marks
-  none_marked marks none = record {
-    wrong = λ v marked. let not = none v in cc;
-    own = λ v e i unmarked last before. let first : e ≡ 0 = omega arith in absurd (omega (arith, before first));
-  }
 
   -- one more place: it is the variant's own, or the variant is marked
   pub own_next : (last n v : ℕ) (marks : List Bool) → AreMarks world last n marks → listed_at world last n ≡ Some v → HasPlace world v last n ⊎ (get_or marks v false ≡ true) → AreMarks world last (n + 1) marks

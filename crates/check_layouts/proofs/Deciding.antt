@@ -21,11 +21,6 @@ like to from a = (a.0, Decides-like a.0 to from a.1)
 pub both_of : {P Q : Type 0} → Answer P → Answer Q → Answer (P × Q)
 both_of a b = (a.0 && b.0, Decides-and a.0 b.0 a.1 b.1)
 
--- the second fact is asked where the first holds
-pub after : {P Q : Type 0} → Answer P → (P → Answer Q) → Answer (P × Q)
-after (true, p) ask = let holds = p.0 refl in let q = ask holds in (q.0, ((λ e. (holds, q.1.0 e)), (λ h. q.1.1 h.1)))
-after (false, p) ask = (false, no (λ h. false≢true (p.1 h.0)))
-
 -- an answer that may fail for want of memory
 pub like_ok : {P Q E : Type 0} (r : Result Bool E) → (P → Q) → (Q → P) → IfOk r (λ b. Decides b P) → IfOk r (λ b. Decides b Q)
 like_ok (Ok b) to from h = Decides-like b to from h

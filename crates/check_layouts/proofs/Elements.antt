@@ -1,17 +1,13 @@
 -- Tests that decide what is asked of the elements of an array.
-use Rattle.std.proofs.Common.{◌≡◌, ℕ, ◌*◌, Bool, true, Option, Some, None, IfSome, Decides, refl, sym, subst}
+use Rattle.std.proofs.Common.{◌≡◌, ℕ, ◌*◌, Bool, Option, Some, None, IfSome, Decides, refl, sym, subst}
 use Rattle.std.proofs.lemmas.Bool.Decides.{Decides-like}
 use Rattle.types.specs.declared.ty.Const.{Const}
-use Rattle.types.specs.declared.ty.Const.TheOpen as layer
-use Rattle.types.specs.declared.ty.Const.TheViews.{out-Ty}
 use Rattle.types.specs.declared.ty.Ty.{Ty}
 use Rattle.types.specs.declared.ty.Ty.TheVariants as type
 use Rattle.world.specs.declared.layout.Layout.{Layout}
 use Rattle.check_layouts.specs.Laid.{AreElements}
-use Rattle.check_layouts.specs.Sizes.{TyLayer}
 use Rattle.numbers.specs.Constants.{number_in}
-use Rattle.check_layouts.proofs.Deciding.{Answer, if_there, like, no, same, yes}
-use Rattle.check_layouts.proofs.Forms.{array_is, array_out, only_array}
+use Rattle.check_layouts.proofs.Forms.{only_array}
 
 -- there is a layout, and a size is that of so many elements of it
 abbrev pub IsProduct : Option ℕ → Option Layout → ℕ → Type 0
@@ -39,14 +35,3 @@ module _ (look : Ty → Option Layout) (ty : Ty) (size : ℕ) where
       (λ product. only_array (AreElements look size) ty element len is (record { layout = product.0; has = product.1; product = product.2 }))
       (λ elements. let own = elements element len is in (own.layout, own.has, own.product))
       decides
-
-  product_answer : (len : Option ℕ) (found : Option Layout) → Answer (IsProduct len found size)
-  product_answer len None = (_, no (λ product. cc))
-  product_answer len (Some layout) = like (λ e. (layout, refl, e)) (product_is len layout size) (if_there (λ count. size ≡ count * layout.size) len (λ count. same size (count * layout.size)))
-
-  pub elements_answer : Answer HasElements
-  elements_answer = by (out-Ty ty) refl
-    where
-      by : (form : TyLayer) → out-Ty ty ≡ form → Answer HasElements
-      by (layer.Array element len) e = let product = product_answer (number_in len) (look element) in (product.0, array_decides element len product.0 (array_is ty element len e) product.1)
-      by _ e = (true, yes (λ element len is. let own = array_out element len in cc))

@@ -1,7 +1,6 @@
 -- Facts that are asked of types of one form alone.
 use Rattle.std.proofs.Common.{◌≡◌, List, sym, ◌∙◌, ap, subst}
 use Rattle.types.specs.declared.ids.AdtId.{AdtId}
-use Rattle.types.specs.declared.ids.InternedClosureId.{InternedClosureId}
 use Rattle.types.specs.declared.ty.Const.{Const}
 use Rattle.types.specs.declared.ty.Const.TheOpen as layer
 use Rattle.types.specs.declared.ty.Const.TheViews.{out-Ty, out-roll-Ty, roll-Ty, roll-out-Ty}
@@ -18,30 +17,11 @@ array_out element len = ap out-Ty (sym (type.rolls-Array element len)) ∙ out-r
 pub adt_out : (id : AdtId) (args : GenericArgs) → out-Ty (type.Adt id args) ≡ layer.Adt id args
 adt_out id args = ap out-Ty (sym (type.rolls-Adt id args)) ∙ out-roll-Ty (layer.Adt id args)
 
-pub closure_out : (id : InternedClosureId) (args : GenericArgs) → out-Ty (type.Closure id args) ≡ layer.Closure id args
-closure_out id args = ap out-Ty (sym (type.rolls-Closure id args)) ∙ out-roll-Ty (layer.Closure id args)
-
-pub tuple_is : (ty : Ty) (types : List Ty) → out-Ty ty ≡ layer.Tuple types → ty ≡ type.Tuple types
-tuple_is ty types e = sym (roll-out-Ty ty) ∙ ap roll-Ty e ∙ type.rolls-Tuple types
-
-pub array_is : (ty element : Ty) (len : Const) → out-Ty ty ≡ layer.Array element len → ty ≡ type.Array element len
-array_is ty element len e = sym (roll-out-Ty ty) ∙ ap roll-Ty e ∙ type.rolls-Array element len
-
 pub adt_is : (ty : Ty) (id : AdtId) (args : GenericArgs) → out-Ty ty ≡ layer.Adt id args → ty ≡ type.Adt id args
 adt_is ty id args e = sym (roll-out-Ty ty) ∙ ap roll-Ty e ∙ type.rolls-Adt id args
 
-pub closure_is : (ty : Ty) (id : InternedClosureId) (args : GenericArgs) → out-Ty ty ≡ layer.Closure id args → ty ≡ type.Closure id args
-closure_is ty id args e = sym (roll-out-Ty ty) ∙ ap roll-Ty e ∙ type.rolls-Closure id args
-
 pub adt_not_tuple : (ty : Ty) (id : AdtId) (args : GenericArgs) (types : List Ty) → ty ≡ type.Adt id args → ty ≡ type.Tuple types → ⊥
 adt_not_tuple ty id args types is also = let layers : layer.Adt id args ≡ layer.Tuple types = sym (adt_out id args) ∙ ap out-Ty (sym is ∙ also) ∙ tuple_out types in cc
-
--- where a type is of the form, there is one such part of it
-pub only_tuple : (fact : List Ty → Type 0) (ty : Ty) (types : List Ty) → ty ≡ type.Tuple types → fact types → (others : List Ty) → ty ≡ type.Tuple others → fact others
-only_tuple fact ty types is holds others also =
-    let layers : layer.Tuple types ≡ layer.Tuple others = sym (tuple_out types) ∙ ap out-Ty (sym is ∙ also) ∙ tuple_out others in
-    let e : types ≡ others = cc in
-    subst fact e holds
 
 pub only_array : (fact : Ty → Const → Type 0) (ty element : Ty) (len : Const) → ty ≡ type.Array element len → fact element len → (other : Ty) (count : Const) → ty ≡ type.Array other count → fact other count
 only_array fact ty element len is holds other count also =
@@ -53,13 +33,6 @@ only_array fact ty element len is holds other count also =
 pub only_adt : (fact : AdtId → GenericArgs → Type 0) (ty : Ty) (id : AdtId) (args : GenericArgs) → ty ≡ type.Adt id args → fact id args → (other : AdtId) (given : GenericArgs) → ty ≡ type.Adt other given → fact other given
 only_adt fact ty id args is holds other given also =
     let layers : layer.Adt id args ≡ layer.Adt other given = sym (adt_out id args) ∙ ap out-Ty (sym is ∙ also) ∙ adt_out other given in
-    let e : id ≡ other = cc in
-    let h : args ≡ given = cc in
-    subst (fact other) h (subst (λ i. fact i args) e holds)
-
-pub only_closure : (fact : InternedClosureId → GenericArgs → Type 0) (ty : Ty) (id : InternedClosureId) (args : GenericArgs) → ty ≡ type.Closure id args → fact id args → (other : InternedClosureId) (given : GenericArgs) → ty ≡ type.Closure other given → fact other given
-only_closure fact ty id args is holds other given also =
-    let layers : layer.Closure id args ≡ layer.Closure other given = sym (closure_out id args) ∙ ap out-Ty (sym is ∙ also) ∙ closure_out other given in
     let e : id ≡ other = cc in
     let h : args ≡ given = cc in
     subst (fact other) h (subst (λ i. fact i args) e holds)

@@ -1,5 +1,5 @@
--- Answers that decide whether a type is laid out, put together from those to its parts.
-use Rattle.std.proofs.Common.{◌≡◌, ℕ, ◌+◌, ◌*◌, true, List, Option, Some, slice_get, IfSome, Decides, refl, sym, ◌∙◌, ap, subst}
+-- What `IsLaidOut` asks of a type, part by part.
+use Rattle.std.proofs.Common.{◌≡◌, ℕ, ◌*◌, true, List, Option, Some, slice_get, IfSome, Decides, refl, sym, ◌∙◌, ap, subst}
 use Rattle.std.proofs.lemmas.Bool.{false≢true}
 use Rattle.std.specs.Option.{option_and_then}
 use Rattle.types.specs.declared.ids.AdtId.{AdtId}
@@ -24,17 +24,16 @@ use Rattle.world.specs.declared.items.FieldRow.{FieldRow}
 use Rattle.world.specs.declared.layout.Layout.{Layout}
 use Rattle.world.specs.declared.layout.MultiLayout.{MultiLayout}
 use Rattle.world.specs.declared.layout.Variants.{Variants}
-use Rattle.world.specs.declared.layout.Variants.TheVariants.{Empty, Single, Multiple}
+use Rattle.world.specs.declared.layout.Variants.TheVariants.{Multiple}
 use Rattle.check_names.specs.Known.{is_closed, is_ty_closed}
 use Rattle.check_layouts.specs.Laid.{AreCaptured, AreInside, Has, HasLayout, IsClosed, IsLaidOut, IsTagInside, field_type, variant_fields, variants_of}
-use Rattle.check_layouts.specs.Sizes.{TyLayer, known_size}
+use Rattle.check_layouts.specs.Sizes.{known_size}
 use Rattle.check_layouts.specs.inner.Fields.{AreFieldsInside, AreVariantsInside, IsItemKnown}
-use Rattle.check_layouts.proofs.Deciding.{Answer, after, at_most, both_of, if_each, if_there, like, of_there, same, there, yes}
-use Rattle.check_layouts.proofs.Elements.{HasElements, elements_answer}
-use Rattle.check_layouts.proofs.Forms.{adt_is, adt_not_tuple, adt_out, closure_is, closure_out, only_adt, only_closure, only_tuple, tuple_is, tuple_out}
+use Rattle.check_layouts.proofs.Deciding.{of_there, there}
+use Rattle.check_layouts.proofs.Elements.{HasElements}
+use Rattle.check_layouts.proofs.Forms.{adt_not_tuple, adt_out, only_adt}
 use Rattle.check_layouts.proofs.Listed.{all_has, has_all}
-use Rattle.check_layouts.proofs.Placed.{captured_answer, inside_answer, item_known_answer, known_at, of_inside, of_variant, struct_answer, union_answer, variants_answer}
-use Rattle.check_layouts.proofs.Sizing.{alignment_answer, multiple_answer, positive, width_answer}
+use Rattle.check_layouts.proofs.Placed.{known_at, of_inside, of_variant}
 
 closed : (ty : Ty) → is_ty_closed ty ≡ true → IsClosed ty
 closed ty e = record {
@@ -61,24 +60,9 @@ module _ (world : HirDatabase) (ty : Ty) (layout : Layout) where
   abbrev pub IsSized : Type 0
   IsSized = IsAlignment layout.align × ((n : ℕ) × (layout.size ≡ n * layout.align)) × IfSome (known_size world ty) (λ known. layout.size ≡ known)
 
-  sized_answer : Answer IsSized
-  sized_answer =
-      like (λ h. (h.0, h.1.0, h.1.1)) (λ h. (h.0, (h.1, h.2)))
-      (after (alignment_answer layout.align)
-      (λ align. both_of (multiple_answer layout.size layout.align (positive layout.align align)) (if_there (λ known. layout.size ≡ known) (known_size world ty) (λ known. same layout.size known))))
-
 module _ (size : ℕ) where
   abbrev pub IsTagWithin : Variants → Type 0
   IsTagWithin variants = (multiple : MultiLayout) → variants ≡ Multiple multiple → IsTagInside size multiple
-
-  within_answer : (variants : Variants) → Answer (IsTagWithin variants)
-  within_answer Empty = (true, yes (λ multiple e. cc))
-  within_answer (Single s) = (true, yes (λ multiple e. cc))
-  within_answer (Multiple multiple) =
-      like
-      (λ h other e. let one : multiple ≡ other = cc in subst (IsTagInside size) one (record { width = h.0; ends = h.1 }))
-      (λ h. let tag = h multiple refl in (tag.width, tag.ends))
-      (both_of (width_answer multiple.tag_size) (at_most (multiple.tag_offset + multiple.tag_size) size))
 
 -- The fields of all variants of an enum have layouts.
 module _ (world : HirDatabase) (look : Ty → Option Layout) (ty : Ty) where
@@ -109,15 +93,6 @@ module _ (world : HirDatabase) (look : Ty → Option Layout) (ty : Ty) where
       (λ rows own k. there (λ f. HasLayout look (field_type world args f)) (slice_get rows k)
       (λ field here. known id args v k rows field is (ap (option_and_then (λ (e : EnumVariantId). fields_of world (variant.EnumVariantId e))) at ∙ own) here)))
 
-  known_answer : Answer AreEnumFieldsKnown
-  known_answer = by (out-Ty ty) refl
-    where
-      by : (form : TyLayer) → out-Ty ty ≡ form → Answer AreEnumFieldsKnown
-      by (layer.Adt (EnumId id) args) e =
-          let is = adt_is ty (EnumId id) args e in
-          like (known_of id args is) (of_known id args is) (if_each (λ v w. Known args w) (variants_of world id.0) (λ v w. item_known_answer world look 0 args (variant.EnumVariantId w)))
-      by _ e = (true, yes (λ id args v k rows field is found at. let own = adt_out (EnumId id) args in cc))
-
 -- The fields, by the form of the type.
 module _ (world : HirDatabase) (look : Ty → Option Layout) (ty : Ty) (layout : Layout) where
   abbrev Fields : Type 0
@@ -126,45 +101,9 @@ module _ (world : HirDatabase) (look : Ty → Option Layout) (ty : Ty) (layout :
   pub adt_of : (id : AdtId) (args : GenericArgs) → ty ≡ type.Adt id args → AreVariantsInside world look id args layout → Fields
   adt_of id args is inside = (only_adt (λ i a. AreVariantsInside world look i a layout) ty id args is inside, λ types also. absurd (adt_not_tuple ty id args types is also))
 
-  tuple_of : (types : List Ty) → ty ≡ type.Tuple types → AreInside look layout.size layout.offsets Some types → Fields
-  tuple_of types is inside = ((λ id args also. absurd (adt_not_tuple ty id args types also is)), only_tuple (λ parts. AreInside look layout.size layout.offsets Some parts) ty types is inside)
-
-  adt_answer : (id : AdtId) (args : GenericArgs) → Answer (AreVariantsInside world look id args layout)
-  adt_answer (StructId id) args = struct_answer world look args layout id
-  adt_answer (UnionId id) args = union_answer world look args layout id
-  adt_answer (EnumId id) args = variants_answer world look args layout id
-
-  fields_answer : Answer Fields
-  fields_answer = by (out-Ty ty) refl
-    where
-      by : (form : TyLayer) → out-Ty ty ≡ form → Answer Fields
-      by (layer.Tuple types) e = let is = tuple_is ty types e in like (tuple_of types is) (λ h. h.1 types is) (inside_answer look layout.size layout.offsets Some types)
-      by (layer.Adt id args) e = let is = adt_is ty id args e in like (adt_of id args is) (λ h. h.0 id args is) (adt_answer id args)
-      by _ e = (true, yes ((λ id args is. let own = adt_out id args in cc), (λ types is. let own = tuple_out types in cc)))
-
   -- The captures of a closure.
   abbrev pub AreClosuresCaptured : Type 0
   AreClosuresCaptured = (id : InternedClosureId) (args : GenericArgs) (row : ClosureRow) → ty ≡ type.Closure id args → slice_get world.closures id.0 ≡ Some row → AreCaptured world look layout.size layout.offsets args row.captures
-
-  abbrev pub IsClosureCaptured : InternedClosureId → GenericArgs → Type 0
-  IsClosureCaptured id args = IfSome (slice_get world.closures id.0) (λ row. AreCaptured world look layout.size layout.offsets args row.captures)
-
-  captures_of : (id : InternedClosureId) (args : GenericArgs) → ty ≡ type.Closure id args → IsClosureCaptured id args → AreClosuresCaptured
-  captures_of id args is captured other given row also at =
-      of_there (λ (closure : ClosureRow). AreCaptured world look layout.size layout.offsets given closure.captures) (slice_get world.closures other.0) row at (only_closure IsClosureCaptured ty id args is captured other given also)
-
-  of_captures : (id : InternedClosureId) (args : GenericArgs) → ty ≡ type.Closure id args → AreClosuresCaptured → IsClosureCaptured id args
-  of_captures id args is captured = there (λ (closure : ClosureRow). AreCaptured world look layout.size layout.offsets args closure.captures) (slice_get world.closures id.0) (λ row at. captured id args row is at)
-
-  captures_answer : Answer AreClosuresCaptured
-  captures_answer = by (out-Ty ty) refl
-    where
-      by : (form : TyLayer) → out-Ty ty ≡ form → Answer AreClosuresCaptured
-      by (layer.Closure id args) e =
-          let is = closure_is ty id args e in
-          like (captures_of id args is) (of_captures id args is)
-          (if_there (λ (row : ClosureRow). AreCaptured world look layout.size layout.offsets args row.captures) (slice_get world.closures id.0) (λ row. captured_answer world look layout.size args layout.offsets row.captures))
-      by _ e = (true, yes (λ id args row is at. let own = closure_out id args in cc))
 
   -- All parts of what is asked of the type.
   abbrev pub Parts : Type 0
@@ -195,10 +134,3 @@ module _ (world : HirDatabase) (look : Ty → Option Layout) (ty : Ty) (layout :
   pub of_laid : IsLaidOut world look ty layout → Parts
   of_laid laid =
       (laid.closed, ((laid.align, laid.multiple, laid.size), (((λ id args is v rows offsets found begins. laid.fields id args v rows offsets is found begins), laid.parts), ((λ id args v k rows field is found at. laid.known (EnumId id) args v k rows field is found at), (laid.captures, (laid.elements, laid.tag))))))
-
-  pub laid_answer : Answer (IsLaidOut world look ty layout)
-  laid_answer =
-      like laid_of of_laid
-      (both_of (is_ty_closed ty, closed_decides ty)
-      (both_of (sized_answer world ty layout)
-      (both_of fields_answer (both_of (known_answer world look ty) (both_of captures_answer (both_of (elements_answer look ty layout.size) (within_answer layout.size layout.variants)))))))

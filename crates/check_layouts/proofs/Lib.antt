@@ -4,7 +4,6 @@ pub mod Fixed
 pub mod Found
 pub mod Kept
 pub mod Listed
-pub mod Firsts
 pub mod Decided
 pub mod Deciding
 pub mod Sizing

@@ -21,7 +21,7 @@ use Rattle.world.specs.declared.layout.MultiLayout.{MultiLayout}
 use Rattle.world.specs.declared.layout.Variants.{Variants}
 use Rattle.world.specs.declared.layout.Variants.TheVariants.{Empty, Single, Multiple}
 use Rattle.check_layouts.specs.Laid.{AreCaptured, AreInside, HasLayout, LiesInside, capture_type, field_type, offsets_among, variants_of}
-use Rattle.check_layouts.specs.inner.Fields.{ArePartsInside, AreVariantsInside, IsItemInside, IsItemKnown, IsPartInside}
+use Rattle.check_layouts.specs.inner.Fields.{ArePartsInside, AreVariantsInside, IsItemInside, IsPartInside}
 use Rattle.check_layouts.proofs.Deciding.{Answer, at_most, both_of, if_each, if_there, like, no, of_there, same, there, walk_end, walk_fails, walk_next, yes}
 
 module _ (look : Ty → Option Layout) (size : ℕ) where
@@ -124,9 +124,6 @@ module _ (world : HirDatabase) (look : Ty → Option Layout) (size : ℕ) (args 
   pub of_captured : (offsets : List ℕ) (captures : List Capture) → AreCaptured world look size offsets args captures → ArePartsInside look size offsets (capture_type world args) captures
   of_captured offsets captures are = from_each look size offsets (capture_type world args) captures are.known are.inside
 
-  pub captured_answer : (offsets : List ℕ) (captures : List Capture) → Answer (AreCaptured world look size offsets args captures)
-  captured_answer offsets captures = like (captured_of offsets captures) (of_captured offsets captures) (each_answer look size offsets (capture_type world args) captures)
-
   abbrev Known : List FieldRow → Type 0
   Known rows = (k : ℕ) → IfSome (slice_get rows k) (λ field. HasLayout look (field_type world args field))
 
@@ -141,9 +138,6 @@ module _ (world : HirDatabase) (look : Ty → Option Layout) (size : ℕ) (args 
 
   item_answer : (offsets : List ℕ) (item : VariantId) → Answer (IsItemInside world look size args offsets item)
   item_answer offsets item = if_there (λ rows. AreInside look size offsets (field_type world args) rows) (fields_of world item) (λ rows. inside_answer look size offsets (field_type world args) rows)
-
-  pub item_known_answer : (item : VariantId) → Answer (IsItemKnown world look args item)
-  item_known_answer item = if_there Known (fields_of world item) (λ rows. like (known_of rows) (of_known rows) (each_answer look size [] (field_type world args) rows))
 
 pub of_variant : {A B : Type 0} (f : A → Option B) (o : Option A) (b : B) → option_and_then f o ≡ Some b → (a : A) × (o ≡ Some a) × (f a ≡ Some b)
 of_variant f None b e = cc
@@ -241,12 +235,3 @@ module _ (world : HirDatabase) (look : Ty → Option Layout) (args : GenericArgs
     enum_answer (Multiple multiple) is =
         like (multiple_of multiple is) (of_multiple multiple is)
         (if_each OneList multiple.variants (λ k offsets. if_there (λ w. Item offsets (variant.EnumVariantId w)) (slice_get ids k) (λ w. item_answer world look layout.size args offsets (variant.EnumVariantId w))))
-
-  pub struct_answer : (id : StructName) → Answer (AreVariantsInside world look (StructId id) args layout)
-  struct_answer id = like (struct_of id) (of_struct id) (item_answer world look layout.size args layout.offsets (variant.StructId id))
-
-  pub union_answer : (id : UnionName) → Answer (AreVariantsInside world look (UnionId id) args layout)
-  union_answer id = like (union_of id) (of_union id) (item_answer world look layout.size args layout.offsets (variant.UnionId id))
-
-  pub variants_answer : (id : EnumName) → Answer (AreVariantsInside world look (EnumId id) args layout)
-  variants_answer id = enum_answer id layout.variants refl

@@ -2,11 +2,9 @@
 use Rattle.std.proofs.Common.{◌≡◌, ℕ, zero, suc, ◌*◌, ◌/◌, ◌%◌, ◌^◌, ◌||◌, ◌<◌, ◌≤◌, ◌⊎◌, inl, inr, eqb, Some, List, [], ◌∷◌, get_or, Decides, refl, sym, ◌∙◌, ap, arith}
 use Rattle.std.proofs.Math.Nat.{mul-mod_left}
 use Rattle.std.proofs.lemmas.Bool.Decides.{Decides-by_or, Decides-eqb, Decides-like, Decides-or}
-use Rattle.std.proofs.lemmas.Nat.{pow_pos}
 use Rattle.std.specs.List.{list_any}
 use Rattle.world.specs.Checked.{IsAlignment}
 use Rattle.check_layouts.specs.Laid.{Has}
-use Rattle.check_layouts.proofs.Deciding.{Answer}
 
 -- the powers of two up to 8192
 abbrev pub alignments : List ℕ
@@ -36,20 +34,11 @@ alignment_decides align =
     (λ is. (is.0, omega (arith, is.1), λ d. power_at is.0 d is.1 ∙ sym is.2))
     (Decides-by_or (λ power. eqb power align) (λ power. power ≡ align) (list_any (λ power. eqb power align)) (λ power. Decides-eqb power align) refl (λ _ _. refl) alignments)
 
-pub alignment_answer : (align : ℕ) → Answer (IsAlignment align)
-alignment_answer align = (list_any (λ power. eqb power align) alignments, alignment_decides align)
-
-pub positive : (align : ℕ) → IsAlignment align → 0 < align
-positive align (k, h, e) = let least = pow_pos k in omega arith
-
 quotient : (size align : ℕ) → 0 < align → size % align ≡ 0 → (n : ℕ) × (size ≡ n * align)
 quotient size align h e = (size / align, grind arith)
 
 pub multiple_decides : (size align : ℕ) → 0 < align → Decides (eqb (size % align) 0) ((n : ℕ) × (size ≡ n * align))
 multiple_decides size align h = Decides-like (eqb (size % align) 0) (quotient size align h) (λ is. ap (λ s. s % align) is.1 ∙ mul-mod_left is.0 align) (Decides-eqb (size % align) 0)
-
-pub multiple_answer : (size align : ℕ) → 0 < align → Answer ((n : ℕ) × (size ≡ n * align))
-multiple_answer size align h = (eqb (size % align) 0, multiple_decides size align h)
 
 -- the sizes of integers
 abbrev widths : List ℕ
@@ -78,6 +67,3 @@ width_decides size =
     is_one (suc (suc (suc zero)), at) = inl (inr cc)
     is_one (suc (suc (suc (suc zero))), at) = inr cc
     is_one (suc (suc (suc (suc (suc k)))), at) = cc
-
-pub width_answer : (size : ℕ) → Answer (Has widths size)
-width_answer size = (eqb size 1 || eqb size 2 || eqb size 4 || eqb size 8 || eqb size 16, width_decides size)
