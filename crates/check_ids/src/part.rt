@@ -1,7 +1,7 @@
 //! Parts of a typed body.
 
 /// A part of a typed body in which an id can be out of range or a list too long.
-#[derive(Clone, Copy, PartialEq, Eq, Debug)]
+#[derive(Clone, Copy)]
 pub enum BodyPart {
     /// The list of expressions, which is too long.
     Exprs,

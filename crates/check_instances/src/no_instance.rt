@@ -3,7 +3,7 @@
 use types::NoMemory;
 
 /// Why there is no instance.
-#[derive(Clone, Copy, PartialEq, Eq, PartialOrd, Ord, Hash, Debug)]
+#[derive(Clone, Copy)]
 pub enum NoInstance {
     /// An argument or a normalized type is missing.
     Missing,

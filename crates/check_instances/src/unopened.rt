@@ -3,7 +3,7 @@
 use types::NoMemory;
 
 /// Why aliases can't be left out of a type.
-#[derive(Clone, Copy, PartialEq, Eq, PartialOrd, Ord, Hash, Debug)]
+#[derive(Clone, Copy)]
 pub(crate) enum Unopened {
     /// An argument or a normalized type is missing.
     Missing,

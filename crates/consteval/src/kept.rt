@@ -8,7 +8,7 @@ use std::rc::Rc;
 use world::{Const, DefWithBodyId, NoMemory, Row};
 
 /// What an answer is kept for.
-#[derive(Clone, Copy, PartialEq, Eq, PartialOrd, Ord, Debug)]
+#[derive(Clone, Copy, PartialEq, Eq, PartialOrd, Ord)]
 pub(crate) enum Key {
     /// The lowered body of a definition.
     Lowered(DefWithBodyId),

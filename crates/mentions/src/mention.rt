@@ -6,7 +6,7 @@ use types::{
 };
 
 /// Something that a type, a constant or generic arguments mention.
-#[derive(Clone, Copy, PartialEq, Eq, Debug)]
+#[derive(Clone, Copy)]
 pub enum Mention {
     Function(FunctionId),
     Const(ConstId),

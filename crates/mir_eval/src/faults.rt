@@ -9,7 +9,7 @@ use std::alloc::Global;
 use world::{NoMemory, Text};
 
 /// How a run can fault.
-#[derive(Clone, Copy, PartialEq, Eq, Debug)]
+#[derive(Clone, Copy)]
 pub(crate) enum Fault {
     BadRead,
     BadWrite,

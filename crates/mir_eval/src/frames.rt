@@ -68,7 +68,7 @@ pub(crate) struct StackFrame<'r, 'a> {
 }
 
 /// A point of a run: about to enter a block, or at the call that ends a block.
-#[derive(Clone, Copy, PartialEq, Eq, Debug)]
+#[derive(Clone, Copy)]
 pub(crate) enum Point {
     Entry(BasicBlockId),
     AtCall(BasicBlockId),

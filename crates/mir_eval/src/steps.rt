@@ -25,7 +25,7 @@ use numbers::{Computed, compute, convert, invert, negate, number_of};
 use types::Ty;
 
 /// Where a block leads that doesn't fault: out of the body, to another block of it, or to a call, which its terminator is.
-#[derive(Clone, Copy, PartialEq, Eq, Debug)]
+#[derive(Clone, Copy)]
 pub(crate) enum Exit {
     Returns,
     GoesTo(BasicBlockId),
@@ -33,14 +33,14 @@ pub(crate) enum Exit {
 }
 
 /// Why the blocks of a frame go no further: the body returns, or the last block calls.
-#[derive(Clone, Copy, PartialEq, Eq, Debug)]
+#[derive(Clone, Copy)]
 pub(crate) enum Halt {
     Returns,
     Calls,
 }
 
 /// Where the blocks of a frame led.
-#[derive(Clone, Copy, PartialEq, Eq, Debug)]
+#[derive(Clone, Copy)]
 pub(crate) struct Stop {
     pub end: Result<Halt, Fault>,
     /// The last block.

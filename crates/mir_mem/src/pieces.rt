@@ -8,7 +8,7 @@ use std::alloc::Global;
 use world::{Bytes, NoMemory};
 
 /// Bytes that were gathered: the first `count` of `room`.
-#[derive(Clone, Copy, PartialEq, Eq, Debug)]
+#[derive(Clone, Copy)]
 pub struct Gathered {
     pub room: [u8; 16],
     pub count: usize,

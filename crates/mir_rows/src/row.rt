@@ -7,7 +7,7 @@ use mir::{BasicBlockId, BinOp, LocalId};
 use numbers::Kind;
 
 /// The bytes of a constant that has at most 16.
-#[derive(Clone, Copy, PartialEq, Eq, Debug)]
+#[derive(Clone, Copy)]
 pub struct Short {
     pub room: [u8; 16],
     pub count: usize,

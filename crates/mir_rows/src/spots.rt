@@ -17,7 +17,7 @@ use types::Box;
 use world::{HirDatabase, Ty};
 
 /// Where the value of a place behind indices lies: in so many bytes of a local's cell from where a reach leads on.
-#[derive(Clone, Copy, PartialEq, Eq, Debug)]
+#[derive(Clone, Copy)]
 pub struct Element {
     pub local: LocalId,
     pub size: u64,

@@ -10,7 +10,7 @@ use mir::{LocalId, PlaceElem, ProjectionElem};
 use world::{HirDatabase, Ty};
 
 /// A step to the element of an array whose number a local holds, of so many that have so many bytes each.
-#[derive(Clone, Copy, PartialEq, Eq, Debug)]
+#[derive(Clone, Copy)]
 pub struct Step {
     pub index: LocalId,
     pub stride: u32,
@@ -18,7 +18,7 @@ pub struct Step {
 }
 
 /// How far elements lead: so many bytes, and as far as at most two steps into arrays.
-#[derive(Clone, Copy, PartialEq, Eq, Debug)]
+#[derive(Clone, Copy)]
 pub struct Reach {
     pub offset: u32,
     pub first: Option<Step>,

@@ -8,7 +8,7 @@ ghost use Rattle.numbers.specs.Computed.{answer_of, count_of};
 use crate::Operator;
 
 /// What an operator makes of its operands: that many of the bytes, a panic, or no meaning.
-#[derive(Clone, Copy, PartialEq, Eq, Debug)]
+#[derive(Clone, Copy)]
 pub enum Computed {
     Bytes([u8; 16], u8),
     Panics(Operator),

@@ -7,7 +7,7 @@ use std::fmt;
 use types::{ArithOp, CmpOp, Ordering, Ty};
 
 /// What the bytes of an operand are, by its type.
-#[derive(Clone, Copy, PartialEq, Eq, Debug)]
+#[derive(Clone, Copy)]
 pub enum Kind {
     Signed,
     Unsigned,

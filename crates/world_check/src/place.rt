@@ -6,7 +6,7 @@ use std::alloc::Global;
 use world::{NoMemory, Text};
 
 /// A table of the world.
-#[derive(Clone, Copy, PartialEq, Eq, PartialOrd, Ord, Hash, Debug)]
+#[derive(Clone, Copy)]
 pub enum TableName {
     Crates,
     Functions,
@@ -29,7 +29,7 @@ pub enum TableName {
 }
 
 /// One of the world's lang functions, which are fields of their own and no rows.
-#[derive(Clone, Copy, PartialEq, Eq, PartialOrd, Ord, Hash, Debug)]
+#[derive(Clone, Copy)]
 pub enum NamedFunction {
     Drop,
     Deref,
@@ -40,7 +40,7 @@ pub enum NamedFunction {
 }
 
 /// A list of a body's nodes, or of its labels.
-#[derive(Clone, Copy, PartialEq, Eq, PartialOrd, Ord, Hash, Debug)]
+#[derive(Clone, Copy)]
 pub enum NodeKind {
     Exprs,
     Pats,
@@ -49,7 +49,7 @@ pub enum NodeKind {
 }
 
 /// A place of the world.
-#[derive(Clone, Copy, PartialEq, Eq, PartialOrd, Ord, Hash, Debug)]
+#[derive(Clone, Copy)]
 pub enum Place {
     /// A table as a whole, as `consts`.
     Table(TableName),
