@@ -19,7 +19,7 @@ use std::alloc::{AllocError, Global};
 use world::{Bytes, List, NoMemory, Text};
 
 /// What the values of a variant look like in memory.
-#[derive(Drop)]
+#[derive(Debug, Drop)]
 pub struct VariantShape {
     /// In bytes.
     pub size: u64,
@@ -30,7 +30,7 @@ pub struct VariantShape {
 }
 
 /// A number that tells a variant from others.
-#[derive(Clone, Copy)]
+#[derive(Clone, Copy, PartialEq, Eq, Debug)]
 pub struct TagBytes {
     pub offset: u64,
     /// In bytes.
