@@ -84,7 +84,7 @@ fn uint_bytes(uint: UintTy) -> u64
     }
 }
 
-/// The size that all 64-bit targets give a type, if they give it one.
+/// The size that the form of a type fixes, with that of what it points to; none for a type of any other form.
 pub(crate) fn known_size(db: &HirDatabase, ty: &Ty) -> Option<u64>
     ensures { result ≡ known_size db.now ty.now }
 {

@@ -73,7 +73,7 @@ impl<T> List<T> {
         self.items.pop()
     }
 
-    /// Gives an empty list back.
+    /// Gives back the memory of an empty list.
     pub(crate) fn destroy_empty(self)
         requires { length self ≡ 0 }
     {

@@ -1,4 +1,4 @@
-//! Types, generic arguments, and constants as values.
+//! Types, generic arguments, and constants as values. Their drops are written by hand: a derived one is proved again in each crate that drops such a value.
 
 use crate::{
     AdtId, AliasId, Box, Bytes, CallableDefId, ConstParamId, FloatTy, GeneralConstId, IntTy,
